@@ -1,4 +1,4 @@
-/* The reader of argument data: a value is a tag and a body, and a field of a map or a sequence is a length and a value. */
+/* The reader and the writer of argument data: a value is a tag and a body, and a field of a map or a sequence is a length and a value. */
 #include "argdata.h"
 
 enum { TAG_BOOL = 2, TAG_FD = 3, TAG_INT = 5, TAG_MAP = 6, TAG_SEQ = 7, TAG_STR = 8 };
@@ -120,4 +120,123 @@ bool argdata_map_find(const argdata_t *map, const char *key, argdata_t *value)
         }
     }
     return false;
+}
+
+/* The writer. */
+
+argdata_writer_t argdata_write(void *bytes, size_t room)
+{
+    return (argdata_writer_t){.bytes = bytes, .room = room};
+}
+
+static void put_byte(argdata_writer_t *writer, uint8_t byte)
+{
+    if (writer->length < writer->room)
+        writer->bytes[writer->length++] = byte;
+    else
+        writer->is_lost = true;
+}
+
+/* Makes so many bytes of room in front of what stands from `start` on. */
+static void make_room(argdata_writer_t *writer, size_t start, size_t count)
+{
+    size_t end = writer->length;
+    for (size_t i = 0; i < count; ++i)
+        put_byte(writer, 0);
+    for (size_t at = end; at > start && !writer->is_lost; --at)
+        writer->bytes[at - 1 + count] = writer->bytes[at - 1];
+}
+
+/* Puts the length of what stands from `start` on in front of it, where it is a field of a map or a sequence. */
+static void finish_value(argdata_writer_t *writer, size_t start)
+{
+    size_t length = writer->length - start, count = 1;
+    if (writer->depth == 0 || writer->is_lost)
+        return;
+    for (size_t rest = length >> 7; rest != 0; rest >>= 7)
+        ++count;
+    make_room(writer, start, count);
+    for (size_t i = 0; i < count && !writer->is_lost; ++i) {
+        size_t group = length >> 7 * (count - 1 - i) & 0x7f;
+        writer->bytes[start + i] = (uint8_t)(group | (i == count - 1 ? 0x80 : 0));
+    }
+}
+
+static void begin_fields(argdata_writer_t *writer, uint8_t tag)
+{
+    if (writer->depth == ARGDATA_MOST_DEPTH)
+        writer->is_lost = true;
+    else
+        writer->begins[writer->depth++] = writer->length;
+    put_byte(writer, tag);
+}
+
+void argdata_begin_map(argdata_writer_t *writer)
+{
+    begin_fields(writer, TAG_MAP);
+}
+
+void argdata_begin_seq(argdata_writer_t *writer)
+{
+    begin_fields(writer, TAG_SEQ);
+}
+
+void argdata_end(argdata_writer_t *writer)
+{
+    if (writer->depth == 0)
+        writer->is_lost = true;
+    else
+        finish_value(writer, writer->begins[--writer->depth]);
+}
+
+void argdata_put_bool(argdata_writer_t *writer, bool truth)
+{
+    size_t start = writer->length;
+    put_byte(writer, TAG_BOOL);
+    if (truth)
+        put_byte(writer, 1);
+    finish_value(writer, start);
+}
+
+void argdata_put_fd(argdata_writer_t *writer, cloudabi_fd_t place)
+{
+    size_t start = writer->length;
+    put_byte(writer, TAG_FD);
+    for (int i = 3; i >= 0; --i)
+        put_byte(writer, (uint8_t)(place >> 8 * i));
+    finish_value(writer, start);
+}
+
+/* In as few bytes as show its sign. */
+void argdata_put_int(argdata_writer_t *writer, int64_t number)
+{
+    size_t start = writer->length;
+    int count = number == 0 ? 0 : 8;
+    put_byte(writer, TAG_INT);
+    while (count > 1 && number >> (8 * count - 9) == (number < 0 ? -1 : 0))
+        --count;
+    for (int i = count - 1; i >= 0; --i)
+        put_byte(writer, (uint8_t)(number >> 8 * i));
+    finish_value(writer, start);
+}
+
+void argdata_put_null(argdata_writer_t *writer)
+{
+    finish_value(writer, writer->length);
+}
+
+void argdata_put_str(argdata_writer_t *writer, const char *text, size_t length)
+{
+    size_t start = writer->length;
+    put_byte(writer, TAG_STR);
+    for (size_t i = 0; i < length; ++i)
+        put_byte(writer, (uint8_t)text[i]);
+    put_byte(writer, 0);
+    finish_value(writer, start);
+}
+
+bool argdata_written(const argdata_writer_t *writer, argdata_t *value)
+{
+    *value = (argdata_t){writer->bytes, writer->length};
+    return writer->depth == 0 && !writer->is_lost;
 }

@@ -41,4 +41,31 @@ bool argdata_seq_next(argdata_rest_t *rest, argdata_t *item);
 /* The value of the map's first pair whose key is this text; false where there is none, and `value` stays. */
 bool argdata_map_find(const argdata_t *map, const char *key, argdata_t *value);
 
+/*
+ * A value that is written, for `proc_exec`, into bytes of the caller's. A map or a sequence is begun, gets its keys and values or its
+ * items one after another, and is ended. A descriptor is its place in the list that goes with the value, from 0.
+ */
+#define ARGDATA_MOST_DEPTH 64
+
+typedef struct {
+    uint8_t *bytes;
+    size_t room, length;
+    size_t begins[ARGDATA_MOST_DEPTH]; /* of the maps and sequences that aren't ended */
+    size_t depth;
+    bool is_lost; /* there was no room, or a map or sequence stood too deep */
+} argdata_writer_t;
+
+argdata_writer_t argdata_write(void *bytes, size_t room);
+void argdata_begin_map(argdata_writer_t *writer);
+void argdata_begin_seq(argdata_writer_t *writer);
+void argdata_end(argdata_writer_t *writer);
+void argdata_put_bool(argdata_writer_t *writer, bool truth);
+void argdata_put_fd(argdata_writer_t *writer, cloudabi_fd_t place);
+void argdata_put_int(argdata_writer_t *writer, int64_t number);
+void argdata_put_null(argdata_writer_t *writer);
+void argdata_put_str(argdata_writer_t *writer, const char *text, size_t length);
+
+/* The value, where all of it was written. */
+bool argdata_written(const argdata_writer_t *writer, argdata_t *value);
+
 #endif

@@ -805,10 +805,14 @@ static void compare(const uint64_t *came)
     memset(output, 0, length);
 }
 
-/* Those that don't return where they succeed. */
-static bool may_end(uint64_t number)
+/* Those that don't return where they succeed: of the signals only those that end the process. */
+static bool may_end(void)
 {
-    return number == 38 || number == 39 || number == 41 || number == 47;
+    uint64_t number = registers[7];
+    uint32_t signal = (uint32_t)registers[0];
+    if (number == 41)
+        return signal != CLOUDABI_SIGCHLD && signal != CLOUDABI_SIGCONT && signal != CLOUDABI_SIGURG;
+    return number == 38 || number == 39 || number == 47;
 }
 
 static void make_row(void)
@@ -817,15 +821,15 @@ static void make_row(void)
     arena.length = wanted.length = ranges_end = fds_room = filled = 0;
     wanted_fields = NULL;
     const struct call *call = read_call();
-    bool is_last = at == end && may_end(registers[7]);
+    bool is_last = at == end && may_end();
     for (size_t i = 0; i < 8; ++i)
         came[i] = wanted_registers[i] = registers[i];
     if (!is_last)
         read_answer(call);
-    if (may_end(registers[7]))
+    if (may_end())
         write_report();
     make_call(came);
-    if (is_last || (may_end(registers[7]) && wanted_registers[0] == CLOUDABI_ESUCCESS)) {
+    if (is_last || (may_end() && wanted_registers[0] == CLOUDABI_ESUCCESS)) {
         has_differed = true;
         begin_line();
         tell("wanted no answer / came ");

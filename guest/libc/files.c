@@ -17,6 +17,8 @@ static cloudabi_rights_t needed_rights(int flags)
     int access = flags & O_ACCMODE;
     if (flags & O_DIRECTORY)
         return 0;
+    if (flags & O_EXEC)
+        return CLOUDABI_RIGHT_PROC_EXEC;
     return (access != O_WRONLY ? CLOUDABI_RIGHT_FD_READ : 0) | (access != O_RDONLY ? CLOUDABI_RIGHT_FD_WRITE : 0);
 }
 

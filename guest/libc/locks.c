@@ -254,12 +254,6 @@ _Noreturn void pthread_exit(void *value)
     exit(0);
 }
 
-int pthread_atfork(void (*prepare)(void), void (*parent)(void), void (*child)(void))
-{
-    (void)prepare, (void)parent, (void)child;
-    return 0;
-}
-
 int pthread_setcancelstate(int state, int *before)
 {
     if (before != NULL)

@@ -54,8 +54,12 @@ static const char *behind_name(const char *path, const char *name)
     return behind_front(path + length);
 }
 
-/* The next directory of the launch. */
-static bool next_directory(argdata_rest_t *rest, const char **name, cloudabi_fd_t *fd)
+bool begin_directories(argdata_rest_t *rest)
+{
+    return argdata_map_begin(&directories, rest);
+}
+
+bool next_directory(argdata_rest_t *rest, const char **name, cloudabi_fd_t *fd)
 {
     argdata_t key, value;
     size_t length;
@@ -115,7 +119,7 @@ cloudabi_errno_t find_place(const char *path, struct place *place)
         path = place->room;
     }
     path = behind_front(path);
-    if (!argdata_map_begin(&directories, &rest))
+    if (!begin_directories(&rest))
         return CLOUDABI_ENOTCAPABLE;
     while (next_directory(&rest, &name, &fd)) {
         const char *behind = behind_name(path, name);

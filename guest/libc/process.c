@@ -1,20 +1,23 @@
-/* The process: its end, its number, signals, and what it can't do: make others. */
+/* The process: its end, its group, what it may use, and what needs a shell. */
 #define _GNU_SOURCE
 #include "system.h"
 
 #include <errno.h>
 #include <sched.h>
-#include <signal.h>
 #include <stdio.h>
 #include <stdlib.h>
 #include <string.h>
 #include <sys/resource.h>
-#include <sys/wait.h>
 #include <unistd.h>
 
 _Noreturn void _exit(int code)
 {
     cloudabi_sys_proc_exit((uint32_t)code);
+}
+
+_Noreturn void _Exit(int code)
+{
+    _exit(code);
 }
 
 /* The functions of at_quick_exit, the last one first. */
@@ -43,16 +46,6 @@ static int absent(void)
     return -1;
 }
 
-pid_t getpid(void)
-{
-    return 1;
-}
-
-pid_t getppid(void)
-{
-    return 0;
-}
-
 pid_t getpgrp(void)
 {
     return 1;
@@ -79,64 +72,6 @@ int setpgid(pid_t process, pid_t group)
 {
     (void)process, (void)group;
     return absent();
-}
-
-pid_t fork(void)
-{
-    return absent();
-}
-
-pid_t vfork(void)
-{
-    return absent();
-}
-
-int execv(const char *path, char *const words[])
-{
-    (void)path, (void)words;
-    return absent();
-}
-
-int execve(const char *path, char *const words[], char *const variables[])
-{
-    (void)path, (void)words, (void)variables;
-    return absent();
-}
-
-int execvp(const char *name, char *const words[])
-{
-    (void)name, (void)words;
-    return absent();
-}
-
-int execl(const char *path, const char *word, ...)
-{
-    (void)path, (void)word;
-    return absent();
-}
-
-int execlp(const char *name, const char *word, ...)
-{
-    (void)name, (void)word;
-    return absent();
-}
-
-int execle(const char *path, const char *word, ...)
-{
-    (void)path, (void)word;
-    return absent();
-}
-
-pid_t waitpid(pid_t process, int *status, int options)
-{
-    (void)process, (void)status, (void)options;
-    errno = ECHILD;
-    return -1;
-}
-
-pid_t wait(int *status)
-{
-    return waitpid(-1, status, 0);
 }
 
 /* There is no shell: that is what a NULL asks. */

@@ -1,10 +1,11 @@
-/* Signals. No other process sends one, so a handler is called by raise alone. */
+/* Signals. No other process sends one but the end, so a handler is called by raise alone. */
 #define _GNU_SOURCE
 #include "system.h"
 
 #include <errno.h>
 #include <setjmp.h>
 #include <signal.h>
+#include <stdlib.h>
 #include <string.h>
 #include <unistd.h>
 
@@ -15,8 +16,20 @@ static const uint8_t signal_of[NSIG] = {
     [SIGHUP] = CLOUDABI_SIGHUP,   [SIGINT] = CLOUDABI_SIGINT,   [SIGQUIT] = CLOUDABI_SIGQUIT, [SIGILL] = CLOUDABI_SIGILL,
     [SIGTRAP] = CLOUDABI_SIGTRAP, [SIGABRT] = CLOUDABI_SIGABRT, [SIGFPE] = CLOUDABI_SIGFPE,   [SIGKILL] = CLOUDABI_SIGKILL,
     [SIGBUS] = CLOUDABI_SIGBUS,   [SIGSEGV] = CLOUDABI_SIGSEGV, [SIGPIPE] = CLOUDABI_SIGPIPE, [SIGALRM] = CLOUDABI_SIGALRM,
-    [SIGTERM] = CLOUDABI_SIGTERM,
+    [SIGTERM] = CLOUDABI_SIGTERM, [SIGSYS] = CLOUDABI_SIGSYS,   [SIGURG] = CLOUDABI_SIGURG,   [SIGSTOP] = CLOUDABI_SIGSTOP,
+    [SIGTSTP] = CLOUDABI_SIGTSTP, [SIGCONT] = CLOUDABI_SIGCONT, [SIGCHLD] = CLOUDABI_SIGCHLD, [SIGTTIN] = CLOUDABI_SIGTTIN,
+    [SIGTTOU] = CLOUDABI_SIGTTOU, [SIGXCPU] = CLOUDABI_SIGXCPU, [SIGXFSZ] = CLOUDABI_SIGXFSZ, [SIGVTALRM] = CLOUDABI_SIGVTALRM,
+    [SIGUSR1] = CLOUDABI_SIGUSR1, [SIGUSR2] = CLOUDABI_SIGUSR2,
 };
+
+int signal_of_sandbox(uint8_t signal)
+{
+    for (int number = 1; number < NSIG; ++number) {
+        if (signal_of[number] == signal)
+            return number;
+    }
+    return SIGKILL;
+}
 
 static bool is_signal(int signal)
 {
@@ -50,9 +63,9 @@ _sig_func_ptr signal(int number, _sig_func_ptr handler)
 /* What a signal without a handler does: most end the process. */
 static int end_by(int signal)
 {
-    if (signal == SIGCHLD || signal == SIGURG || signal == SIGCONT || signal == SIGWINCH)
+    if (signal == SIGWINCH)
         return 0;
-    return result(signal_of[signal] != 0 ? cloudabi_sys_proc_raise(signal_of[signal]) : CLOUDABI_ENOSYS);
+    return result(cloudabi_sys_proc_raise(signal_of[signal] != 0 ? signal_of[signal] : CLOUDABI_SIGTERM));
 }
 
 int raise(int signal)
@@ -81,6 +94,16 @@ int raise(int signal)
         action.sa_handler(signal);
     blocked = before;
     return 0;
+}
+
+/* Neither a handler that returns nor a signal that waits or is ignored keeps it from the end. */
+_Noreturn void abort(void)
+{
+    sigdelset(&blocked, SIGABRT);
+    if (actions[SIGABRT].sa_handler != SIG_IGN)
+        raise(SIGABRT);
+    cloudabi_sys_proc_raise(CLOUDABI_SIGABRT);
+    _exit(1);
 }
 
 int kill(pid_t process, int signal)
@@ -123,6 +146,11 @@ int sigprocmask(int how, const sigset_t *set, sigset_t *before)
 int pthread_sigmask(int how, const sigset_t *set, sigset_t *before)
 {
     return sigprocmask(how, set, before) == 0 ? 0 : errno;
+}
+
+void drop_pending_signals(void)
+{
+    pending = 0;
 }
 
 int sigpending(sigset_t *set)

@@ -62,6 +62,12 @@ void set_descriptor(int fd, cloudabi_fd_t to, bool closes_on_exec);
 const char *directory_path(int fd);
 void keep_directory_path(int fd, const char *path);
 
+/* A child has none of its parent's signals that wait. */
+void drop_pending_signals(void);
+
+/* The number in C of a signal of the sandbox. */
+int signal_of_sandbox(uint8_t signal);
+
 /* Where a path leads: a directory's descriptor, and the path below it. */
 struct place {
     cloudabi_fd_t directory;
@@ -71,6 +77,10 @@ struct place {
 
 /* The directories of the launch. */
 void take_directories(const argdata_t *arguments);
+
+/* These directories one after another: the name without slashes at its front, and the descriptor. */
+bool begin_directories(argdata_rest_t *rest);
+bool next_directory(argdata_rest_t *rest, const char **name, cloudabi_fd_t *fd);
 
 /* Says on standard error what of the argument data means nothing here. */
 void check_launch(const argdata_t *arguments);

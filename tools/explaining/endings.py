@@ -10,6 +10,7 @@ SIGNALS = {
     "TRAP": "an EBREAK: `__builtin_trap()`, which GCC also puts where the program can't go on",
     "XCPU": "all of its turns are used: `--turns N` gives more, or the program runs for ever",
 }
+RAISED = "it raised that itself, by `abort`, `raise` or the call `proc_raise`"
 BEFORE_A_SIGNAL = "the history lists the last calls before it (`--history`; of tools/run-in `--page`); see docs/PROGRAMS.md, How to look for mistakes"
 STALLED = ["the run stalled: all threads wait, and none for a time that comes, so nothing can happen any more. A time from 2^62 nanoseconds of the "
            "run's clock on, which is 146 years, never comes",
@@ -21,9 +22,9 @@ def ending_lines(status, run):
     if run == "stalled":
         return STALLED
     found = re.fullmatch(r"signal (\d+) ([A-Z0-9]+)", status or "")
-    if not found or found[2] not in SIGNALS:
+    if not found:
         return []
-    return [f"the program was ended by the signal {found[2]}: {SIGNALS[found[2]]}", BEFORE_A_SIGNAL]
+    return [f"the program was ended by the signal {found[2]}: {SIGNALS.get(found[2], RAISED)}", BEFORE_A_SIGNAL]
 
 
 class Watcher:

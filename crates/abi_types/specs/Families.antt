@@ -1,5 +1,5 @@
 -- Which part of the kernel does a call. A view of a call is of one call alone; IsOf says of which.
-use Rattle.std.specs.Prelude.{◌≡◌, ℕ, Bool, true, false, Option, None, Some, ◌==◌, if◌then◌else◌}
+use Rattle.std.specs.Prelude.{◌≡◌, ℕ, Bool, true, false, List, Option, None, Some, ◌==◌, if◌then◌else◌}
 use Rattle.std.specs.Int.RustNames.{bit_and}
 use Rattle.abi_base.specs.declared.errno.Errno.{Errno}
 use Rattle.abi_base.specs.declared.errno.Errno.TheVariants.{Nosys, Success}
@@ -119,9 +119,6 @@ abbrev pub is_unbuilt : Call → Bool
 is_unbuilt (call.CondvarSignal condvar word scope n) = true
 is_unbuilt (call.FdCreate1 kind) = true
 is_unbuilt (call.LockUnlock lock word scope) = true
-is_unbuilt (call.ProcExec fd bytes fds) = true
-is_unbuilt (call.ProcFork left) = true
-is_unbuilt (call.ProcRaise signal) = true
 is_unbuilt _ = false
 
 -- ---- the part that does a call
@@ -137,6 +134,9 @@ IsOf c (family.Open view) = c ≡ call_of_open view
 IsOf c (family.Ends kind) = c ≡ call.FdCreate2 kind
 IsOf c (family.Socket view) = c ≡ call_of_socket view
 IsOf c (family.Exit code) = c ≡ call.ProcExit code
+IsOf c (family.Fork left) = c ≡ call.ProcFork left
+IsOf c (family.Exec fd fds) = (bytes : List ℕ) × (c ≡ call.ProcExec fd bytes fds.now)
+IsOf c (family.Raise signal) = c ≡ call.ProcRaise signal
 IsOf c (family.Zeros place) = zeros_of c ≡ Some place
 IsOf c (family.Poll subscriptions) = c ≡ call.Poll subscriptions.now
 IsOf c (family.ClockResolution clock) = c ≡ call.ClockResGet clock

@@ -168,6 +168,12 @@ pub enum Family<'a> {
     Socket(SocketCall<'a>),
     /// proc_exit: ends the process.
     Exit { code: u32 },
+    /// proc_fork: makes a child of the process, which has so many turns left.
+    Fork { left: u64 },
+    /// proc_exec: lets a descriptor's program begin in the process, which has these descriptors then.
+    Exec { fd: u32, fds: &'a [u32] },
+    /// proc_raise: sends the process the signal with this number.
+    Raise { signal: u32 },
     /// mem_map of zeros, which go there.
     Zeros(Place),
     /// poll: waits for one of these.
@@ -414,6 +420,12 @@ impl Call {
                 how: *how,
             }),
             Call::ProcExit { code } => Family::Exit { code: *code },
+            Call::ProcFork { left } => Family::Fork { left: *left },
+            Call::ProcExec { fd, fds, .. } => Family::Exec {
+                fd: *fd,
+                fds: fds.as_slice(),
+            },
+            Call::ProcRaise { signal } => Family::Raise { signal: *signal },
             Call::Poll { subscriptions } => Family::Poll(subscriptions.as_slice()),
             Call::ClockResGet { clock } => Family::ClockResolution { clock: *clock },
             Call::ClockTimeGet { clock, precision } => Family::ClockTime {
@@ -433,12 +445,9 @@ impl Call {
             | Call::ThreadYield => Family::Answered(Errno::Success),
             Call::Memory { errno, .. } | Call::Refused { errno, .. } => Family::Answered(*errno),
             Call::Unknown { .. } => Family::Answered(Errno::Nosys),
-            Call::CondvarSignal { .. }
-            | Call::FdCreate1 { .. }
-            | Call::LockUnlock { .. }
-            | Call::ProcExec { .. }
-            | Call::ProcFork { .. }
-            | Call::ProcRaise { .. } => Family::NotBuilt,
+            Call::CondvarSignal { .. } | Call::FdCreate1 { .. } | Call::LockUnlock { .. } => {
+                Family::NotBuilt
+            }
         }
     }
 }

@@ -27,6 +27,9 @@ pub enum OpenKind {
         which: u32,
         flags: u16,
     },
-    /// A process.
-    Process(Pid),
+    /// A process, and the number of its object: its maker numbered it like what else it made.
+    Process {
+        pid: Pid,
+        object: ObjId,
+    },
 }

@@ -30,6 +30,8 @@ pub enum Payload {
         elf: Bytes,
         canary: Bytes,
     },
+    /// The number of the process that the call has made. The caller isn't told it: the run makes the child by it.
+    Child(u32),
 }
 
 /// A word of the caller's memory, a lock or a condition variable, that is written.
@@ -87,6 +89,7 @@ impl TryClone for Payload {
                 elf: elf.copy()?,
                 canary: canary.copy()?,
             }),
+            Payload::Child(child) => Ok(Payload::Child(*child)),
         }
     }
 }

@@ -1,10 +1,10 @@
 -- What each call leaves of its process's table is what its line of `granted_row` says.
-use Rattle.std.proofs.Common.{◌≡◌, ℕ, ◌==◌, not, Bool, true, false, cond, List, [], ◌∷◌, ◌++◌, Option, Some, None, refl, sym, ap, subst, ◌∙◌}
+use Rattle.std.proofs.Common.{◌≡◌, ◌≢◌, ℕ, ◌+◌, ◌==◌, not, Bool, true, false, cond, List, [], ◌∷◌, ◌++◌, Option, Some, None, refl, sym, ap, subst, ◌∙◌}
 use Rattle.std.specs.Prelude.{bit_and, option_map}
 use Rattle.std.specs.FinMap.{get, insert, len-empty, remove}
 use Rattle.std.specs.Ordering.{nat_cmp}
 use Rattle.abi_base.specs.declared.errno.Errno.{Errno}
-use Rattle.abi_base.specs.declared.errno.Errno.TheVariants.{Success, Again, Badf, Mfile, Nosys, Perm}
+use Rattle.abi_base.specs.declared.errno.Errno.TheVariants.{Success, Again, Badf, Inval, Mfile, Nosys, Notsup, Perm}
 use Rattle.abi_structures.specs.declared.structures.FdStat.{FdStat}
 use Rattle.abi_structures.specs.declared.structures.ThreadAttr.{ThreadAttr}
 use Rattle.abi_types.specs.declared.reply.Answer.{Answer}
@@ -23,7 +23,7 @@ use Rattle.abi_types.specs.declared.open_kind.OpenKind.{OpenKind}
 use Rattle.abi_types.specs.declared.place.Place.{Place}
 use Rattle.abi_types.specs.declared.thread.Thread.{Thread}
 use Rattle.abi_types.specs.declared.who.Who.{Who}
-use Rattle.maps.specs.Maps.{get-insert-same}
+use Rattle.maps.specs.Maps.{get-insert-same, get-insert-other}
 use Rattle.kernel_model.specs.Calls.{meaning_of, refusal_of}
 use Rattle.kernel_model.specs.Families.DescriptorCalls.{with_table, lowest_free, dup_at, dup_of, replaced_by, stat_open, stat_get, with_flags, lowered_to, stat_set, stat_put}
 use Rattle.kernel_model.specs.Families.ClockCalls.{drawn_if, real_time, time_of}
@@ -63,7 +63,17 @@ use Rattle.kernel_model.specs.Families.ChannelCalls.{picked, receive_open, send_
 use Rattle.kernel_model.specs.Families.SocketCalls.{create, made_of, shutting}
 use Rattle.kernel_model.proofs.SocketCalls.{send_apart, shut_opens_well}
 use Rattle.kernel_model.proofs.StreamCalls.{read_opens_well, seek_opens_well, write_opens_well}
-use Rattle.authority_laws.specs.Ledger.{Row, no_row, has_thread, After, after_of, with_held, lowered_row, granted_row, by_success, answered_row}
+use Rattle.abi_base.specs.declared.signal.Signal.{Signal}
+use Rattle.kernel_model.specs.Families.ForkCalls.{child_descriptor, child_kind, child_number, child_open, child_process, fork_at, fork_updates, listed}
+use Rattle.kernel_model.specs.Families.Numbers.{made_more, object_of}
+use Rattle.kernel_model.specs.Families.ProcessCalls.{Raised, stops, passes, ends, raise_as, raise_of, raised_by, signal_of}
+use Rattle.kernel_model.specs.ForkLaws.{nth_held}
+use Rattle.kernel_model.specs.OwnChanges.{is_success, with_next_child}
+use Rattle.kernel_model.specs.State.{counts_in}
+use Rattle.kernel_model.proofs.Births.{CanFork, child_apart, fork_holds, forks, may_is}
+use Rattle.kernel_model.proofs.ExecCalls.{exec_at_holds, listed_at}
+use Rattle.kernel_model.proofs.Tests.{not_true}
+use Rattle.authority_laws.specs.Ledger.{Row, no_row, has_thread, After, after_of, with_held, lowered_row, granted_row, by_success, answered_row, new_held, new_held_of, raised_as, raised_row, recently_made}
 use Rattle.authority_laws.proofs.Openings.{open_reported, walk_by_error}
 use Rattle.authority_laws.proofs.Sockets.{pair_reported, receive_reported}
 use Rattle.authority_laws.proofs.Rows.{LeavesRow, row_in, row_of, row_emptied, row_inserted, row_removed, by_error, by_either, refused_reported, badf_is_error, mfile_is_error, nosys_is_error, again_is_error, perm_is_error}
@@ -277,6 +287,61 @@ exit_reported lock word scope constants S v who table there seen =
     (λ new own _ more. sym (ap (λ o. cond (has_thread o) row no_row) (get-insert-same S.processes who.pid (without_thread who.tid own))
     ∙ ap (λ b. cond (not b) row no_row) more))
 
+-- ---- processes
+
+error_not_success : (errno : Errno) → is_success errno ≡ false → errno ≢ Success
+error_not_success errno isnt is = not_true (sym isnt ∙ ap is_success is)
+
+-- proc_exec: under each number stands what was listed there
+exec_reported : (fd : ℕ) (bytes fds : List ℕ) → IsReported (call.ProcExec fd bytes fds)
+exec_reported fd bytes fds constants S v who table there seen =
+    exec_at_holds constants.key who.pid who.tid (listed table fds) v (LeavesRow S who.pid (call.ProcExec fd bytes fds))
+    (λ errno here other. refused_reported S who.pid (call.ProcExec fd bytes fds) errno (error_not_success errno other)) (get table fd)
+    (λ x node own is program has.
+    ap row_in (get-insert-same S.tables who.pid (listed table fds)) ∙ (λ i n. listed_at table fds n i)
+    ∙ ap (λ row. nth_held row fds) (sym (ap row_in there)))
+
+-- proc_fork: the open of the child, which is the last that was made, stands under the result
+forked_reported : (S : State) (p t : ℕ) (table : Table) (left fd : ℕ) (own : ProcessState) → get S.tables p ≡ Some table → get S.processes p ≡ Some own
+    → CanFork left p t own → LeavesRow S p (call.ProcFork left) (forks p t own table fd)
+forked_reported S p t table left fd own there has can =
+    let c = child_number p own in
+    let o = child_open p own in
+    let d = child_descriptor p own in
+    let new = made_more 2 (with_next_child own) in
+    let apart : p ≢ c = λ is. child_apart own.depth p (own.counts.forks + 1) (may_is own can.bears) (sym is) in
+    let U : State = put_all (fork_updates p t own table fd) S in
+    let objects : (counts_in (get U.processes p)).objects ≡ own.counts.objects + 2 =
+    ap (λ x. (counts_in x).objects) (get-insert-other (insert S.processes p new) c (child_process t own) p apart ∙ get-insert-same S.processes p new) in
+    let made : new_held (recently_made U p 0) ≡ Some d =
+    ap (λ k. new_held_of (object_of p k) (get U.opens (object_of p k))) objects ∙ ap (new_held_of o) (get-insert-same S.opens o (child_kind p own)) in
+    ap row_in (get-insert-same (insert S.tables c table) p (insert table fd d)) ∙ row_inserted table fd d
+    ∙ (λ i. with_held (sym (ap row_in there) i) fd (sym made i))
+
+fork_reported : (left : ℕ) → IsReported (call.ProcFork left)
+fork_reported left constants S v who table there seen =
+    subst (λ u. LeavesRow S who.pid (call.ProcFork left) (fork_at left who.pid who.tid (u.process who.pid) table (lowest_free table))) (sym seen)
+    (fork_holds left who.pid who.tid (get S.processes who.pid) table (lowest_free table) (LeavesRow S who.pid (call.ProcFork left))
+    (λ errno here other. refused_reported S who.pid (call.ProcFork left) errno (error_not_success errno other))
+    (λ fd own free has can. forked_reported S who.pid who.tid table left fd own there has can))
+
+-- proc_raise: where the process ends it holds nothing
+kind_reported : (S : State) (p : ℕ) (own : Option ProcessState) (number : ℕ) (signal : Signal) → signal_of number ≡ Some signal → (kind : Raised)
+    → raised_by signal ≡ kind → LeavesRow S p (call.ProcRaise number) (raise_as kind p own signal)
+kind_reported S p own number signal is stops by = refused_reported S p (call.ProcRaise number) Notsup (λ e. cc)
+kind_reported S p own number signal is passes by =
+    sym (ap (λ o. raised_row o (row_of S p)) is ∙ ap (λ kind. raised_as kind (row_of S p)) by)
+kind_reported S p own number signal is ends by =
+    row_emptied S.tables p ∙ sym (ap (λ o. raised_row o (row_of S p)) is ∙ ap (λ kind. raised_as kind (row_of S p)) by)
+
+signal_reported : (S : State) (p : ℕ) (own : Option ProcessState) (number : ℕ) (o : Option Signal) → signal_of number ≡ o
+    → LeavesRow S p (call.ProcRaise number) (raise_of p own o)
+signal_reported S p own number None is = refused_reported S p (call.ProcRaise number) Inval (λ e. cc)
+signal_reported S p own number (Some signal) is = kind_reported S p own number signal is (raised_by signal) refl
+
+raise_reported : (number : ℕ) → IsReported (call.ProcRaise number)
+raise_reported number constants S v who table there seen = signal_reported S who.pid (v.process who.pid) number (signal_of number) refl
+
 -- ---- all of them
 
 pub reported : (call : Call) → IsReported call
@@ -326,10 +391,10 @@ reported (call.LockUnlock lock word scope) = unbuilt_reported (call.LockUnlock l
 reported (call.MemMap place length prot flags fd offset) = mem_map_reported place length prot flags fd offset
 reported (call.Memory number errno) = λ constants S v who table there seen. decided_reported (call.Memory number errno) errno S who.pid (λ after row reply. refl)
 reported (call.Poll subscriptions) = poll_reported subscriptions
-reported (call.ProcExec fd bytes fds) = unbuilt_reported (call.ProcExec fd bytes fds) (λ constants v who table. refl)
+reported (call.ProcExec fd bytes fds) = exec_reported fd bytes fds
 reported (call.ProcExit code) = proc_exit_reported code
-reported (call.ProcFork left) = unbuilt_reported (call.ProcFork left) (λ constants v who table. refl)
-reported (call.ProcRaise signal) = unbuilt_reported (call.ProcRaise signal) (λ constants v who table. refl)
+reported (call.ProcFork left) = fork_reported left
+reported (call.ProcRaise signal) = raise_reported signal
 reported (call.RandomGet length) = random_reported length
 reported (call.SockRecv fd length fds flags) = λ constants S v who table there seen.
     subst (λ u. LeavesRow S who.pid (call.SockRecv fd length fds flags) (at_descriptor (λ o. receive_open who.pid table u length fds flags) u (get table fd)))

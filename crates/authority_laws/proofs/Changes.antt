@@ -8,7 +8,7 @@ use Rattle.abi_structures.specs.declared.structures.FdStat.{FdStat}
 use Rattle.abi_types.specs.declared.reply.Answer.{Answer}
 use Rattle.abi_types.specs.declared.reply.Answer.TheVariants as answer
 use Rattle.abi_types.specs.declared.call.Call.{Call}
-use Rattle.abi_types.specs.declared.call.Call.TheVariants.{FdClose, FdCreate2, FdDup, FdReplace, FdStatPut, FileOpen, ProcExit, ProcFork, SockRecv, ThreadExit}
+use Rattle.abi_types.specs.declared.call.Call.TheVariants.{FdClose, FdCreate2, FdDup, FdReplace, FdStatPut, FileOpen, ProcExec, ProcExit, ProcFork, ProcRaise, SockRecv, ThreadExit}
 use Rattle.abi_types.specs.declared.reply.Reply.{Reply}
 use Rattle.abi_types.specs.declared.descriptor.Descriptor.{Descriptor}
 use Rattle.run_types.specs.declared.history.Act.{Act}
@@ -17,7 +17,9 @@ use Rattle.abi_types.specs.declared.open_kind.OpenKind.{OpenKind}
 use Rattle.kernel_model.specs.Families.DescriptorCalls.{lowered_to}
 use Rattle.kernel_model.specs.Families.Opening.{opened_descriptor}
 use Rattle.authority_laws.specs.Ledger.{Row, no_row, After, came_for, installed_fds, put_each, with_held, lowered_row, granted_row, by_success, answered_row}
-use Rattle.authority_laws.specs.Origins.{IsNoMoreThan, Change, stays, ends, closes, copies, lowers, opens, makes, makes_both, receives}
+use Rattle.authority_laws.specs.Origins.{IsNoMoreThan, Change, stays, ends, closes, copies, lowers, opens, makes, makes_both, lists, receives}
+use Rattle.kernel_model.specs.Families.ProcessCalls.{signal_of}
+use Rattle.authority_laws.proofs.Rows.{raised_cases}
 use Rattle.authority_laws.specs.Recorded.{acted_row}
 
 pub lowered_is_no_more : (d : Descriptor) (stat : FdStat) → IsNoMoreThan (lowered_to d stat) d
@@ -69,8 +71,10 @@ granted_change after row (FdDup fd) reply = copied_change after row fd reply.r1 
 granted_change after row (FdReplace from to) reply = copied_change after row from to (row from) refl
 granted_change after row (FdStatPut fd stat flags) reply = where_set_change after row fd stat (bit_and flags 2 == 0)
 granted_change after row (FileOpen lookup path oflags stat) reply = opened_change after row reply.r1 stat (after.made 0).kind refl
+granted_change after row (ProcExec fd bytes fds) reply = lists fds refl
 granted_change after row (ProcExit code) reply = ends refl
 granted_change after row (ProcFork left) reply = makes reply.r1 refl
+granted_change after row (ProcRaise signal) reply = raised_cases (Change after row) (signal_of signal) row (stays refl) (ends refl)
 granted_change after row (SockRecv fd length fds flags) reply = received_change after row fd (installed_fds reply.payload) (row fd) refl
 granted_change after row (ThreadExit lock word scope) reply = where_ends_change after row after.threaded
 granted_change after row _ reply = stays refl

@@ -54,20 +54,20 @@ abbrev left : After → Ledger → ℕ → Act → Ledger
 left after l p a = of_live after.live (with_row (with_child (acted_child after a) (l.held p) l) p (acted_row after (l.held p) a))
 
 acted_rows : (w : World) (who : Who) (guest : Guest) (ts : List ℕ) (a : Act) (l : Ledger) → FitsAct w.constants w.state who guest ts a
-    → IsValid (acted w who a).state → HasRows w.state l → HasRows (acted w who a).state (left (after_of w.state (acted w who a).state who.pid) l who.pid a)
-acted_rows w who guest ts (act.Call call given) l fits valid before =
-    step_rows w.constants w.state who call given (called_state w.constants w.state who call given) l fits.1 valid before
-acted_rows w who guest ts (act.Wake call given answered) l fits valid before =
-    wake_rows w.constants w.state who call given answered (woken_state w.constants w.state who call given answered) l fits.1.1 valid before
-acted_rows w who guest ts (act.Trap signal) l fits valid before = end_rows w.state who.pid (Killed signal) l (killed_is_not_live signal) valid before
-acted_rows w who guest ts act.Expire l fits valid before = end_rows w.state who.pid (Killed Xcpu) l (killed_is_not_live Xcpu) valid before
-acted_rows w who guest ts act.Idle l fits valid before = idle_rows w.state who.pid l valid before
+    → IsValid w.state → IsValid (acted w who a).state → HasRows w.state l → HasRows (acted w who a).state (left (after_of w.state (acted w who a).state who.pid) l who.pid a)
+acted_rows w who guest ts (act.Call call given) l fits start valid before =
+    step_rows w.constants w.state who call given (called_state w.constants w.state who call given) l fits.1 start valid before
+acted_rows w who guest ts (act.Wake call given answered) l fits start valid before =
+    wake_rows w.constants w.state who call given answered (woken_state w.constants w.state who call given answered) l fits.1.1 start valid before
+acted_rows w who guest ts (act.Trap signal) l fits start valid before = end_rows w.state who.pid (Killed signal) l (killed_is_not_live signal) valid before
+acted_rows w who guest ts act.Expire l fits start valid before = end_rows w.state who.pid (Killed Xcpu) l (killed_is_not_live Xcpu) valid before
+acted_rows w who guest ts act.Idle l fits start valid before = idle_rows w.state who.pid l valid before
 
-apply_rows : (w : World) (e : Entry) (l : Ledger) → Fits w e → IsValid (apply w e).state → HasRows w.state l
+apply_rows : (w : World) (e : Entry) (l : Ledger) → Fits w e → IsValid w.state → IsValid (apply w e).state → HasRows w.state l
     → HasRows (apply w e).state (noted (after_in w (apply w e) e) l e)
-apply_rows w e l fits valid before =
+apply_rows w e l fits start valid before =
     subst (λ (v : World). HasRows v.state (noted (after_in w v e) l e)) (sym (apply_is w e))
-    (acted_rows (turned w e.pid e.turns) (who_of w.state e) (guest_of w e.pid) e.turns e.act l fits.act
+    (acted_rows (turned w e.pid e.turns) (who_of w.state e) (guest_of w e.pid) e.turns e.act l fits.act start
     (subst (λ (v : World). IsValid v.state) (apply_is w e) valid) before)
 
 follows_rows : (w : World) (history : List Entry) (l : Ledger) → FollowsFrom w history → IsValid w.state → HasRows w.state l
@@ -76,7 +76,7 @@ unfolding FollowsFrom apply_all noted_all
 follows_rows w [] l follows valid before = before
 follows_rows w (e ∷ history) l follows valid before =
     let then = apply_valid w e follows.0 valid in
-    follows_rows (apply w e) history (noted (after_in w (apply w e) e) l e) follows.1 then (apply_rows w e l follows.0 then before)
+    follows_rows (apply w e) history (noted (after_in w (apply w e) e) l e) follows.1 then (apply_rows w e l follows.0 valid then before)
 
 start_has_rows : (launch : Launch) → HasRows (start_world launch).state (launch_ledger launch.tree launch.grants)
 start_has_rows launch =

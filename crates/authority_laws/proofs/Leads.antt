@@ -80,7 +80,7 @@ opened_below t u c start new (File n offset flags) same none file (inr made) = i
 opened_below t u c start new (Directory n flags) same none there under = under
 opened_below t u c start new (End reads writes flags) same none there under = absurd under
 opened_below t u c start new (Terminal which flags) same none there under = absurd under
-opened_below t u c start new (Process p) same none there under = absurd under
+opened_below t u c start new (Process p object) same none there under = absurd under
 
 walk_well : (oflags flags : ℕ) (path : List ℕ) (now new : ℕ) (t : Tree) → IsTree t → get t.nodes new ≡ None → (w : Walked)
     → OpensWell t new (open_walked oflags flags path now new t w)
@@ -185,7 +185,7 @@ module _ (S : State) (p : ℕ) (table : Table) (lookup : Lookup) (path : List �
     open_leads x (Some (File n offset flags)) held is = nothing_leads (lowest_free table)
     open_leads x (Some (End reads writes flags)) held is = nothing_leads (lowest_free table)
     open_leads x (Some (Terminal which flags)) held is = nothing_leads (lowest_free table)
-    open_leads x (Some (Process q)) held is = nothing_leads (lowest_free table)
+    open_leads x (Some (Process q object)) held is = nothing_leads (lowest_free table)
 
     held_leads : (o : Option Descriptor) → get table lookup.fd ≡ o → LeadsOf S p lookup.fd (opening_from (open_of (whole S) o))
     held_leads None held = nothing_leads (lowest_free table)
@@ -232,7 +232,7 @@ below_stays U t start (File n offset flags) tree (inr is) = inr (new_stays U t s
 below_stays U t start (Directory n flags) tree under = under
 below_stays U t start (End reads writes flags) tree under = absurd under
 below_stays U t start (Terminal which flags) tree under = absurd under
-below_stays U t start (Process p) tree under = absurd under
+below_stays U t start (Process p object) tree under = absurd under
 
 was_there : {X : Type 0} (b : Bool) (o : Option X) (x : X) → cond b o None ≡ Some x → o ≡ Some x
 was_there true o x e = e

@@ -1,5 +1,5 @@
 pub mod Rows
-pub mod Unbuilt
+pub mod Children
 pub mod Openings
 pub mod Sockets
 pub mod Calls
@@ -12,6 +12,7 @@ pub mod Copies
 pub mod Leads
 pub mod Bounds
 pub mod Pairs
+pub mod Forked
 pub mod OpenStays
 pub mod Waiting
 pub mod Sends

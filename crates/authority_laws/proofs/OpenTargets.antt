@@ -34,7 +34,7 @@ launch_of_same (File n offset flags) b same of = tt
 launch_of_same (Directory n flags) b same of = tt
 launch_of_same (Terminal which flags) b same of = tt
 launch_of_same (End reads writes flags) (End other_reads other_writes other_flags) same of = of
-launch_of_same (Process q) (Process r) same of = of
+launch_of_same (Process q object) (Process r other) same of = of
 launch_of_same a b same of = absurd same
 
 new_is_not_of_launch : (kind : OpenKind) → is_new kind ≡ true → IsOfLaunch kind → ⊥
@@ -82,6 +82,8 @@ module _ (launch : Launch) (begins : MayBegin launch.tree launch.grants) where
   stays history p n d (way.opened front e fd to stat opens o before) legal = (o.kind, o.opened, of_same_itself o.kind)
   stays history p n d (way.inherited front e q m x child before here) legal =
       goes_on front e q m x (first_open launch front e.pid m x before) legal (stays front e.pid m x before (legal_front launch front (e ∷ []) legal)) here
+  stays history p n d (way.listed front e k m x lists before here) legal =
+      goes_on front e e.pid k x (first_open launch front e.pid m x before) legal (stays front e.pid m x before (legal_front launch front (e ∷ []) legal)) here
   stays history p n d (way.made front e m x makes is here) legal = (is.kind, is.opened, of_same_itself is.kind)
   stays history p n d (way.received front e m c x receives s before here) legal =
       let first : OpenKind = first_open launch s.early s.sender.pid s.m x before in
@@ -106,6 +108,8 @@ module _ (launch : Launch) (begins : MayBegin launch.tree launch.grants) where
       let same : was.0 ≡ directory = same_some was.0 directory (sym was.1 ∙ o.directory) in
       from_grant front e.pid fd o.x before earlier (launch_of_same first directory (subst (IsOfSame first) same was.2) tt)
   from_grant history p n d (way.inherited front e q m x child before here) legal of =
+      from_grant front e.pid m x before (legal_front launch front (e ∷ []) legal) of
+  from_grant history p n d (way.listed front e k m x lists before here) legal of =
       from_grant front e.pid m x before (legal_front launch front (e ∷ []) legal) of
   from_grant history p n d (way.made front e m x makes is here) legal of = absurd (new_is_not_of_launch is.kind is.new of)
   from_grant history p n d (way.received front e m c x receives s before here) legal of =

@@ -1,5 +1,5 @@
 -- What a process holds after an entry is no more than what it held before it, and what is passed on stays within a grant.
-use Rattle.std.proofs.Common.{◌≡◌, ◌⊎◌, inl, inr, ℕ, ◌==◌, Bool, true, false, cond, List, ◌&&◌, ◌∷◌, ◌++◌, [], Option, Some, None, refl, sym, subst, ◌∙◌, arith}
+use Rattle.std.proofs.Common.{◌≡◌, ◌⊎◌, inl, inr, ℕ, zero, suc, ◌==◌, Bool, true, false, cond, List, ◌&&◌, ◌∷◌, ◌++◌, [], Option, Some, None, refl, sym, subst, ◌∙◌, arith}
 use Rattle.std.proofs.lemmas.Bool.Decides.{eqb_tells}
 use Rattle.std.proofs.lemmas.List.{append_assoc}
 use Rattle.std.proofs.lemmas.Nat.Bits.{bit_at_above}
@@ -11,7 +11,7 @@ use Rattle.abi_base.specs.declared.errno.Errno.TheVariants.{Success}
 use Rattle.abi_base.specs.declared.grant.Grant.{Grant}
 use Rattle.abi_structures.specs.declared.structures.FdStat.{FdStat}
 use Rattle.abi_types.specs.declared.call.Call.{Call}
-use Rattle.abi_types.specs.declared.call.Call.TheVariants.{FdClose, FdCreate2, FdDup, FdReplace, FdStatPut, FdWrite, FileOpen, ProcExit, ProcFork, SockRecv, SockSend, ThreadExit}
+use Rattle.abi_types.specs.declared.call.Call.TheVariants.{FdClose, FdCreate2, FdDup, FdReplace, FdStatPut, FdWrite, FileOpen, ProcExec, ProcExit, ProcFork, ProcRaise, SockRecv, SockSend, ThreadExit}
 use Rattle.abi_types.specs.declared.descriptor.Descriptor.{Descriptor}
 use Rattle.abi_types.specs.declared.open_kind.OpenKind.{OpenKind}
 use Rattle.abi_types.specs.declared.reply.Answer.{Answer}
@@ -27,6 +27,9 @@ use Rattle.kernel_model.specs.Start.{granted_descriptor}
 use Rattle.kernel_model.specs.State.{Tree}
 use Rattle.kernel_model.proofs.Lists.{in_all}
 use Rattle.kernel_model.proofs.Tests.{none_is_no, same_some}
+use Rattle.kernel_model.specs.Families.ProcessCalls.{signal_of}
+use Rattle.kernel_model.specs.ForkLaws.{nth_held}
+use Rattle.authority_laws.proofs.Rows.{raised_cases}
 use Rattle.authority_laws.specs.Ledger.{Row, no_row, Sends, with_held, Ledger, After, added, came_for, channel_of, installed_fds, put_each, picked, with_sent, granted_sends, answered_sends, with_row, with_child, of_live, lowered_row, opened_held, is_new, new_descriptor, new_held, new_held_of, granted_row, by_success, answered_row}
 use Rattle.authority_laws.specs.Origins.{Origin, was_held, was_made, was_received, ComesFrom, IsNoMoreThan, InheritsFrom, PassesOnNothing, ComesFromGrant}
 use Rattle.authority_laws.specs.Recorded.{acted_child, acted_row, acted_sends, noted}
@@ -134,6 +137,12 @@ module _ (after : After) (l : Ledger) (e : Entry) where
   received_from fd fds None there = each_from (l.held e.pid) fds [] own_from tt
   received_from fd fds (Some x) there = each_from (l.held e.pid) fds (after.came x.id) own_from (all_came fd x there [] (after.came x.id) refl)
 
+  -- what is listed was held
+  listed_from : (fds : List ℕ) → RowComesFrom (nth_held (l.held e.pid) fds)
+  listed_from [] n d here = absurd (none_is_no d here)
+  listed_from (fd ∷ fds) zero d here = own_from fd d here
+  listed_from (fd ∷ fds) (suc n) d here = listed_from fds n d here
+
   granted_from : (call : Call) (reply : Reply) → OpensWithin call → RowComesFrom (granted_row after (l.held e.pid) call reply)
   granted_from (FdClose fd) reply within = number_from (l.held e.pid) fd None own_from (λ d here. absurd (none_is_no d here))
   granted_from (FdCreate2 kind) reply within =
@@ -145,9 +154,11 @@ module _ (after : After) (l : Ledger) (e : Entry) where
   granted_from (FdStatPut fd stat flags) reply within = where_set_from fd stat (bit_and flags 2 == 0)
   granted_from (FileOpen lookup path oflags stat) reply within =
       number_from (l.held e.pid) reply.r1 (opened_held (after.made 0) stat) own_from (opened_from stat within (after.made 0).kind)
+  granted_from (ProcExec fd bytes fds) reply within = listed_from fds
   granted_from (ProcExit code) reply within = nothing_from
   granted_from (ProcFork left) reply within =
       number_from (l.held e.pid) reply.r1 (new_held (after.made 0)) own_from (made_from 0 (after.made 0).kind refl)
+  granted_from (ProcRaise signal) reply within = raised_cases RowComesFrom (signal_of signal) (l.held e.pid) own_from nothing_from
   granted_from (SockRecv fd length fds flags) reply within = received_from fd (installed_fds reply.payload) (l.held e.pid fd) refl
   granted_from (ThreadExit lock word scope) reply within = where_ends_from after.threaded
   granted_from _ reply within = own_from

@@ -109,7 +109,7 @@ new_by S U number kind true d new absent there here =
     subst (IsMade S U) (same_some (new_descriptor number kind) d here)
     (record { kind = kind; absent = absent; opened = there; new = new; passes = new_passes number kind })
 
-held_by : (S U : State) (number : ℕ) (o : Option OpenKind) (d : Descriptor) → get U.opens number ≡ o → get S.opens number ≡ None → new_held_of number o ≡ Some d
+pub held_by : (S U : State) (number : ℕ) (o : Option OpenKind) (d : Descriptor) → get U.opens number ≡ o → get S.opens number ≡ None → new_held_of number o ≡ Some d
     → IsMade S U d
 held_by S U number None d there absent here = absurd (none_is_no d here)
 held_by S U number (Some kind) d there absent here = new_by S U number kind (is_new kind) d refl absent there here

@@ -12,7 +12,9 @@ use Rattle.maps.specs.Maps.{get-insert-same, get-insert-other, get-remove-same, 
 use Rattle.kernel_model.specs.Outcome.{Outcome, replies}
 use Rattle.kernel_model.specs.Reply.{refused}
 use Rattle.kernel_model.specs.State.{State, Table, put_all}
-use Rattle.authority_laws.specs.Ledger.{Row, no_row, with_held, after_of, granted_row, by_success, answered_row}
+use Rattle.abi_base.specs.declared.signal.Signal.{Signal}
+use Rattle.kernel_model.specs.Families.ProcessCalls.{Raised, stops, passes, ends, raised_by}
+use Rattle.authority_laws.specs.Ledger.{Row, no_row, with_held, after_of, granted_row, by_success, answered_row, raised_as, raised_row}
 
 -- what is under each number of a table, where there is a table
 abbrev pub row_in : Option Table → Row
@@ -114,3 +116,15 @@ notcapable_is_error e = cc
 
 pub nosys_is_error : Nosys ≢ Success
 nosys_is_error e = cc
+
+-- ---- signals
+
+-- what holds of the row that a process has and of one with nothing holds of what it holds once it has raised a signal
+kind_cases : (P : Row → Type 0) (kind : Raised) (row : Row) → P row → P no_row → P (raised_as kind row)
+kind_cases P stops row stays over = stays
+kind_cases P passes row stays over = stays
+kind_cases P ends row stays over = over
+
+pub raised_cases : (P : Row → Type 0) (o : Option Signal) (row : Row) → P row → P no_row → P (raised_row o row)
+raised_cases P None row stays over = stays
+raised_cases P (Some signal) row stays over = kind_cases P (raised_by signal) row stays over

@@ -1,6 +1,7 @@
 -- An entry leaves in the kernel's tables what it leaves in the ledger.
-use Rattle.std.proofs.Common.{◌≡◌, ◌≢◌, inl, inr, ℕ, ◌-◌, zero, suc, Bool, true, false, not, cond, List, Option, Some, None, is_some, refl, sym, ap, subst, ◌∙◌, arith}
+use Rattle.std.proofs.Common.{◌≡◌, ◌≢◌, inl, inr, ℕ, ◌-◌, ◌==◌, zero, suc, Bool, true, false, not, cond, List, Option, Some, None, is_some, refl, sym, ap, subst, ◌∙◌, arith}
 use Rattle.std.specs.Prelude.{option_map}
+use Rattle.std.proofs.lemmas.Bool.{eq-eqb}
 use Rattle.std.proofs.lemmas.Bool.Decides.{eqb_tells}
 use Rattle.std.specs.Ordering.{nat_cmp}
 use Rattle.std.specs.Cmp.{nat_cmp_total}
@@ -47,7 +48,10 @@ use Rattle.kernel_model.proofs.Valids.{get_released, held_or_carried, held_stays
 use Rattle.authority_laws.specs.Ledger.{Row, no_row, has_thread, with_held, Ledger, After, Made, after_of, object_at, process_of, sends_of, waits_for, is_live, is_new, last_made, recently_made, with_row, with_child, of_live, launch_row, launch_ledger, new_descriptor, new_held, new_held_of, granted_row, by_success, answered_row, answered_child}
 use Rattle.authority_laws.specs.Laws.{Holds}
 use Rattle.authority_laws.proofs.Calls.{reported, refusal_reported}
-use Rattle.authority_laws.proofs.Unbuilt.{makes_no_child}
+use Rattle.kernel_model.specs.Threads.{child_made}
+use Rattle.kernel_model.proofs.Parts.{number_apart}
+use Rattle.kernel_model.proofs.Waking.{resumed_valid, same_child}
+use Rattle.authority_laws.proofs.Children.{born_row, child_is}
 use Rattle.authority_laws.proofs.Rows.{LeavesRow, held_elsewhere, held_here, put_twice, row_in, row_of, row_in_empty}
 
 -- the ledger has each process's row of the state
@@ -304,29 +308,43 @@ changed S T l p child row valid own others =
       | inr other ↦ others q other.1 live ∙ sym (ap (λ b. cond b row (m.held q)) other.0)
     ])
 
+-- the child, if it is this process, holds what it was given, and each other process what it held
+held_by_child : (child : Option ℕ) (q : ℕ) (row : Row) (l : Ledger) → child ≡ Some q → (with_child child row l).held q ≡ row
+held_by_child None q row l is = absurd (none_is_no q is)
+held_by_child (Some c) q row l is = ap (λ b. cond b row (l.held q)) (ap (λ k. q == k) (same_some c q is) ∙ eq-eqb q q refl)
+
+held_beside_child : (child : Option ℕ) (q : ℕ) (row : Row) (l : Ledger) → child ≢ Some q → (with_child child row l).held q ≡ l.held q
+held_beside_child None q row l other = refl
+held_beside_child (Some c) q row l other = ap (λ b. cond b row (l.held q)) (number_apart q c (λ is. other (ap Some is)))
+
 pub step_rows : (constants : Constants) (S : State) (who : Who) (call : Call) (given : Answer) (T : State) (l : Ledger) → IsStep constants S who call given T
-    → IsValid T → HasRows S l
+    → IsValid S → IsValid T → HasRows S l
     → HasRows T (of_live (after_of S T who.pid).live
     (with_row (with_child (answered_child (after_of S T who.pid) call given) (l.held who.pid) l) who.pid
     (answered_row (after_of S T who.pid) (l.held who.pid) call given)))
-step_rows constants S who call given T l step valid before =
+step_rows constants S who call given T l step start valid before =
     changed S T l who.pid (answered_child (after_of S T who.pid) call given) (answered_row (after_of S T who.pid) (l.held who.pid) call given) valid
     (λ live. step_row constants S who call given T step
     (λ is. live_spared (unreleased constants S who call) who.pid (subst (λ (V : State). get V.statuses who.pid ≡ Some Live) is live))
     ∙ ap (λ row. answered_row (after_of S T who.pid) row call given) (before who.pid))
     (λ q apart live.
-    ap row_in (unless_killed S T q live ((step_moves_only constants S who call given T step).others q apart)).0 ∙ before q
-    ∙ ap (λ child. (with_child child (l.held who.pid) l).held q) (sym (makes_no_child constants S who call given T (after_of S T who.pid) step)))
+    let child : Option ℕ = child_made call given who.pid (get S.processes who.pid) in
+    elim (same_child q child) [
+      | inl born ↦ born_row constants S who call given T q start step born ∙ before who.pid ∙ sym (held_by_child child q (l.held who.pid) l born)
+      | inr unborn ↦ ap row_in (unless_killed S T q live ((step_moves_only constants S who call given T step).others q apart unborn)).0 ∙ before q
+          ∙ sym (held_beside_child child q (l.held who.pid) l unborn)
+    ]
+    ∙ ap (λ child. (with_child child (l.held who.pid) l).held q) (sym (child_is constants S who call given T start step)))
 
 -- a wake leaves what its call does from the state in which the thread runs
 pub wake_rows : (constants : Constants) (S : State) (who : Who) (call : Call) (given : WakeIn) (answered : Answer) (T : State) (l : Ledger)
-    → IsWake constants S who call given answered T → IsValid T → HasRows S l
+    → IsWake constants S who call given answered T → IsValid S → IsValid T → HasRows S l
     → HasRows T (of_live (after_of S T who.pid).live
     (with_row (with_child (answered_child (after_of S T who.pid) call answered) (l.held who.pid) l) who.pid
     (answered_row (after_of S T who.pid) (l.held who.pid) call answered)))
-wake_rows constants S who call (wake.Plain word) answered T l is valid before =
-    step_rows constants (resumed S who) who call answered T l is.0 valid before
-wake_rows constants S who call wake.Fault answered T l is valid before =
+wake_rows constants S who call (wake.Plain word) answered T l is start valid before =
+    step_rows constants (resumed S who) who call answered T l is.0 (resumed_valid S who start) valid before
+wake_rows constants S who call wake.Fault answered T l is start valid before =
     let row : (q : ℕ) → row_of T q ≡ l.held q = λ q. ap (λ (U : State). row_of U q) is.1 ∙ before q in
     subst (λ a. HasRows T (of_live (after_of S T who.pid).live
     (with_row (with_child (answered_child (after_of S T who.pid) call a) (l.held who.pid) l) who.pid

@@ -133,7 +133,7 @@ inheriting_small (File node offset flags) = omega arith
 inheriting_small (Directory node flags) = omega arith
 inheriting_small (End reads writes flags) = omega arith
 inheriting_small (Terminal which flags) = omega arith
-inheriting_small (Process p) = omega arith
+inheriting_small (Process p object) = omega arith
 
 named_small : (o : Option OpenKind) (x : Descriptor) → IsNamed o x → x.inheriting.0 < 2 ^ 64
 named_small None x named = absurd named

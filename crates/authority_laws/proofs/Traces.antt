@@ -1,7 +1,7 @@
 -- Each descriptor that is held after a legal history is traced.
 --     held_is_traced      so it is
 --     traced_is_held, traced_is_within_root      what is traced is held, with no right that its root neither has nor passes on
-use Rattle.std.proofs.Common.{◌≡◌, ◌≢◌, inl, inr, ℕ, Bool, true, false, cond, List, [], ◌∷◌, ◌++◌, Option, Some, None, refl, sym, ap, subst, ◌∙◌, append-nil, append_assoc}
+use Rattle.std.proofs.Common.{◌≡◌, ◌≢◌, inl, inr, ℕ, zero, suc, Bool, true, false, cond, List, [], ◌∷◌, ◌++◌, Option, Some, None, refl, sym, ap, subst, ◌∙◌, append-nil, append_assoc}
 use Rattle.std.proofs.lemmas.Bool.Decides.{eqb_tells}
 use Rattle.std.specs.Prelude.{bit_and, option_map, slice_get}
 use Rattle.std.specs.FinMap.{get}
@@ -11,7 +11,7 @@ use Rattle.abi_base.specs.declared.grant.Grant.{Grant}
 use Rattle.abi_structures.specs.declared.structures.FdStat.{FdStat}
 use Rattle.tree_model.specs.Grants.{MayBegin}
 use Rattle.abi_types.specs.declared.call.Call.{Call}
-use Rattle.abi_types.specs.declared.call.Call.TheVariants.{FdClose, FdCreate2, FdDup, FdReplace, FdStatPut, FileOpen, ProcExit, ProcFork, SockRecv, ThreadExit}
+use Rattle.abi_types.specs.declared.call.Call.TheVariants.{FdClose, FdCreate2, FdDup, FdReplace, FdStatPut, FileOpen, ProcExec, ProcExit, ProcFork, ProcRaise, SockRecv, ThreadExit}
 use Rattle.abi_types.specs.declared.descriptor.Descriptor.{Descriptor}
 use Rattle.abi_types.specs.declared.open_kind.OpenKind.{OpenKind}
 use Rattle.abi_types.specs.declared.reply.Answer.{Answer}
@@ -23,7 +23,6 @@ use Rattle.run_types.specs.declared.history.Entry.{Entry}
 use Rattle.run_types.specs.declared.launch.Launch.{Launch}
 use Rattle.kernel_model.specs.Start.{granted_descriptor, start_state}
 use Rattle.kernel_model.specs.State.{State}
-use Rattle.kernel_model.specs.Waits.{may_wait}
 use Rattle.kernel_model.proofs.OpenLaws.{grants_are_held}
 use Rattle.kernel_model.proofs.Tests.{none_is_no, same_some}
 use Rattle.run_model.specs.Legal.{FitsAct, Legal}
@@ -34,7 +33,7 @@ use Rattle.authority_laws.specs.Ledger.{After, Ledger, Row, answered_row, came_f
 use Rattle.authority_laws.specs.Laws.{TracedIsWithinRoot}
 use Rattle.authority_laws.specs.Origins.{InheritsFrom, IsCopied, IsNoMoreThan}
 use Rattle.authority_laws.specs.Recorded.{Replies, Succeeds, acted_row, after_at, child_at, held_after, held_before, ledger}
-use Rattle.authority_laws.specs.Traces.{AllTraced, IsGranted, IsWithin, Lowers, OpensFrom, Receives, Root, Traced, first_open, of_entry, of_grant, root}
+use Rattle.authority_laws.specs.Traces.{AllTraced, IsGranted, IsWithin, Lists, Lowers, OpensFrom, Receives, Root, Traced, first_open, of_entry, of_grant, root}
 use Rattle.authority_laws.specs.Traces as way
 use Rattle.authority_laws.proofs.Bounds.{opens_are_bounded}
 use Rattle.authority_laws.proofs.Pairs.{Counted, last_is_made, next_is_made, step_counts}
@@ -43,7 +42,11 @@ use Rattle.authority_laws.proofs.Histories.{ledger_none, other_after, own_after,
 use Rattle.authority_laws.proofs.Origins.{inherits_of_granted, itself, no_more_than_granted}
 use Rattle.authority_laws.proofs.Rows.{held_elsewhere, held_here, row_in, row_of}
 use Rattle.authority_laws.proofs.States.{start_rows}
-use Rattle.authority_laws.proofs.Unbuilt.{IsUnbuilt, unbuilt_fails}
+use Rattle.kernel_model.specs.Families.ProcessCalls.{signal_of}
+use Rattle.kernel_model.specs.ForkLaws.{IsForked, nth_held}
+use Rattle.kernel_model.proofs.ForkLaws.{fork_makes_child}
+use Rattle.authority_laws.proofs.Forked.{forked_is_made}
+use Rattle.authority_laws.proofs.Rows.{raised_cases}
 use Rattle.authority_laws.proofs.Waiting.{AllSent, CameFrom, WasSent, begins_sent, came_from, came_waits, entry_sent, put_in, world_begins}
 
 -- ---- the grants
@@ -79,6 +82,12 @@ begins_traced launch begins p n d here =
           (sym (ap (λ b. cond b (launch_row launch.tree launch.grants) no_row n) is.0) ∙ first))
       | inr other ↦ absurd (none_is_no d (sym (ap (λ b. cond b (launch_row launch.tree launch.grants) no_row n) other.0) ∙ first))
     ]
+
+-- what is listed in the n-th place
+nth_from : (row : Row) (fds : List ℕ) (n : ℕ) (d : Descriptor) → nth_held row fds n ≡ Some d → (m : ℕ) × (slice_get fds n ≡ Some m) × (row m ≡ Some d)
+nth_from row [] n d here = absurd (none_is_no d here)
+nth_from row (fd ∷ fds) zero d here = (fd, refl, here)
+nth_from row (fd ∷ fds) (suc n) d here = nth_from row fds n d here
 
 -- ---- one more entry
 
@@ -142,13 +151,35 @@ module _ (launch : Launch) (front : List Entry) (e : Entry) (begins : MayBegin l
       let c : IsCopied row after from to = copied row after from to x there (left ∙ ap (with_held row to) (sym there)) in
       changed_at to c.d c.copy (way.copied front e from to (inr (reply, done)) c (before e.pid from c.d c.source)) c.others
 
-  -- a call that isn't built yet, and in which no thread waits, does not succeed
-  never_done : {X : Type 0} (call : Call) (reply : Reply) → may_wait call ≡ false → IsUnbuilt call → Succeeds e call reply → X
-  never_done call reply never unbuilt succeeds =
+  -- the open of the child that a fork made stands under its result, and all else stays
+  forked_traced : (left : ℕ) (reply : Reply) → Succeeds e (ProcFork left) reply → after ≡ granted_row shown row (ProcFork left) reply → (n : ℕ) (d : Descriptor)
+      → after n ≡ Some d → Is e.pid n d
+  forked_traced left reply succeeds is n d here =
       let w = world launch front in
-      let done = at_once launch front e [] call reply begins legal never succeeds in
-      absurd (unbuilt_fails w.constants w.state (who_of w.state e) call reply (called_state w.constants w.state (who_of w.state e) call (answer.Reply reply)) unbuilt
-      (stepped launch front e [] call reply legal done) done.success)
+      let S : State = w.state in
+      let U : State = (world launch (front ++ e ∷ [])).state in
+      let who = who_of S e in
+      let done = at_once launch front e [] (ProcFork left) reply begins legal refl succeeds in
+      let T : State = called_state w.constants S who (ProcFork left) (answer.Reply reply) in
+      let valid = world_is_valid launch front begins (legal_front launch front (e ∷ []) legal) in
+      let forked : IsForked S who left reply T =
+      fork_makes_child w.constants S who left reply T valid (stepped launch front e [] (ProcFork left) reply legal done) done.success in
+      let there : IsForked S who left reply U = subst (IsForked S who left reply) (sym (called_is launch front e (ProcFork left) reply done)) forked in
+      elim (eqb_tells n reply.r1) [
+        | inl same ↦ (
+            let stands : new_held (shown.made 0) ≡ Some d =
+            sym ((λ i. is i n) ∙ ap (with_held row reply.r1 (new_held (shown.made 0))) same.1 ∙ held_here row reply.r1 (new_held (shown.made 0))) ∙ here in
+            way.made front e n d (inr (left, reply, succeeds, same.1)) (forked_is_made S who left reply U there d stands) here)
+        | inr other ↦ stays e.pid n d (sym ((λ i. is i n) ∙ held_elsewhere row reply.r1 (new_held (shown.made 0)) n other.1) ∙ here) here
+      ]
+
+  -- what a proc_exec listed stands in its place
+  exec_traced : (fd : ℕ) (bytes fds : List ℕ) (reply : Reply) → Succeeds e (ProcExec fd bytes fds) reply → after ≡ nth_held row fds → (n : ℕ) (d : Descriptor)
+      → after n ≡ Some d → Is e.pid n d
+  exec_traced fd bytes fds reply done left n d here =
+      let from = nth_from row fds n d (sym (λ i. left i n) ∙ here) in
+      let lists : Lists e n from.0 = record { fd = fd; bytes = bytes; fds = fds; reply = reply; succeeds = done; place = from.1 } in
+      way.listed front e n from.0 d lists (before e.pid from.0 d from.2) here
 
   -- the two ends that fd_create2 made stand under its results, and all else stays
   created_traced : (kind : ℕ) (reply : Reply) → Succeeds e (FdCreate2 kind) reply → after ≡ granted_row shown row (FdCreate2 kind) reply → (n : ℕ) (d : Descriptor)
@@ -227,7 +258,10 @@ module _ (launch : Launch) (front : List Entry) (e : Entry) (begins : MayBegin l
       let from : OpensFrom e lookup.fd reply.r1 stat = record { lookup = lookup; path = path; oflags = oflags; reply = reply; succeeds = done; from = refl; result = refl } in
       changed_at reply.r1 o.d o.stands (way.opened front e lookup.fd reply.r1 stat from o (before e.pid lookup.fd o.x o.source)) o.others
   call_traced (ProcExit code) reply done left = none_traced left
-  call_traced (ProcFork count) reply done left = never_done (ProcFork count) reply refl (λ constants v who table. refl) done
+  call_traced (ProcExec fd bytes fds) reply done left = exec_traced fd bytes fds reply done left
+  call_traced (ProcFork count) reply done left = forked_traced count reply done left
+  call_traced (ProcRaise signal) reply done left =
+      raised_cases (λ r. after ≡ r → (n : ℕ) (d : Descriptor) → after n ≡ Some d → Is e.pid n d) (signal_of signal) row same_traced none_traced left
   call_traced (SockRecv fd length room flags) reply done left = received_traced fd length room flags reply done left
   call_traced (ThreadExit lock word scope) reply done left = where_ends_traced shown.threaded left
   call_traced call reply done left = same_traced left
@@ -242,7 +276,8 @@ module _ (launch : Launch) (front : List Entry) (e : Entry) (begins : MayBegin l
   answer_traced call (answer.Parked writes) is left = same_traced left
   answer_traced call (answer.Reply reply) is left = errno_traced call reply reply.errno (is reply refl) refl left
 
-  act_traced : (a : Act) → e.act ≡ a → FitsAct (world launch front).constants (world launch front).state (who_of (world launch front).state e) (guest_of (world launch front) e.pid) e.turns a
+  act_traced : (a : Act) → e.act ≡ a
+      → FitsAct (world launch front).constants (world launch front).state (who_of (world launch front).state e) (guest_of (world launch front) e.pid) e.turns a
       → after ≡ acted_row shown row a → (n : ℕ) (d : Descriptor) → after n ≡ Some d → Is e.pid n d
   act_traced (act.Call call given) is fits left = answer_traced call given (λ reply replies. inl (is ∙ ap (act.Call call) replies)) left
   act_traced (act.Wake call given answered) is fits left =
@@ -312,6 +347,7 @@ traced_is_held launch history p n d (way.copied front e from to copies c before)
 traced_is_held launch history p n d (way.lowered front e m stat lowers l before) = l.stands
 traced_is_held launch history p n d (way.opened front e fd to stat opens o before) = o.stands
 traced_is_held launch history p n d (way.inherited front e q m x child before here) = here
+traced_is_held launch history p n d (way.listed front e k m x lists before here) = here
 traced_is_held launch history p n d (way.made front e m x makes is here) = here
 traced_is_held launch history p n d (way.received front e m c x receives s before here) = here
 
@@ -352,5 +388,6 @@ traced_is_within_root launch history p n d (way.opened front e fd to stat opens 
     inherits_within launch (root launch front e.pid fd o.x before) (first_open launch front e.pid fd o.x before) o.kind o.d o.x o.within
     (traced_is_within_root launch front e.pid fd o.x before)
 traced_is_within_root launch history p n d (way.inherited front e q m x child before here) = traced_is_within_root launch front e.pid m x before
+traced_is_within_root launch history p n d (way.listed front e k m x lists before here) = traced_is_within_root launch front e.pid m x before
 traced_is_within_root launch history p n d (way.made front e m x makes is here) = (is.passes, inl is.new)
 traced_is_within_root launch history p n d (way.received front e m c x receives s before here) = traced_is_within_root launch s.early s.sender.pid s.m x before

@@ -5,11 +5,12 @@ use Rattle.std.specs.Ordering.{nat_cmp}
 use Rattle.abi_base.specs.declared.errno.Errno.{Errno}
 use Rattle.abi_base.specs.declared.errno.Errno.TheVariants.{Success}
 use Rattle.abi_base.specs.declared.grant.Grant.{Grant}
+use Rattle.abi_base.specs.declared.signal.Signal.{Signal}
 use Rattle.abi_structures.specs.declared.structures.FdStat.{FdStat}
 use Rattle.abi_types.specs.declared.reply.Answer.{Answer}
 use Rattle.abi_types.specs.declared.reply.Answer.TheVariants as answer
 use Rattle.abi_types.specs.declared.call.Call.{Call}
-use Rattle.abi_types.specs.declared.call.Call.TheVariants.{FdClose, FdCreate2, FdDup, FdReplace, FdStatPut, FdWrite, FileOpen, ProcExit, ProcFork, SockRecv, SockSend, ThreadExit}
+use Rattle.abi_types.specs.declared.call.Call.TheVariants.{FdClose, FdCreate2, FdDup, FdReplace, FdStatPut, FdWrite, FileOpen, ProcExec, ProcExit, ProcFork, ProcRaise, SockRecv, SockSend, ThreadExit}
 use Rattle.abi_types.specs.declared.reply.Payload.{Payload}
 use Rattle.abi_types.specs.declared.reply.Payload.TheVariants.{Received}
 use Rattle.abi_types.specs.declared.reply.Reply.{Reply}
@@ -22,6 +23,8 @@ use Rattle.kernel_model.specs.Channels.{Channel, Send}
 use Rattle.kernel_model.specs.Families.DescriptorCalls.{lowered_to}
 use Rattle.kernel_model.specs.Families.Numbers.{object_of}
 use Rattle.kernel_model.specs.Families.Opening.{opened_descriptor}
+use Rattle.kernel_model.specs.Families.ProcessCalls.{Raised, stops, passes, ends, raised_by, signal_of}
+use Rattle.kernel_model.specs.ForkLaws.{nth_held}
 use Rattle.kernel_model.specs.Start.{granted_descriptor}
 use Rattle.kernel_model.specs.State.{ProcessState, State, Tree, counts_in}
 use Rattle.kernel_model.specs.Fits.{fits}
@@ -86,7 +89,7 @@ recently_made S p (suc k) = object_at S (object_of p ((counts_in (get S.processe
 
 -- the process that an open is of, if it is one of a process
 abbrev pub process_of : Option OpenKind → Option ℕ
-process_of (Some (Process q)) = Some q
+process_of (Some (Process q object)) = Some q
 process_of _ = None
 
 -- whether a process of this status is live
@@ -154,7 +157,7 @@ opened_held made stat = option_map (λ kind. opened_descriptor made.number kind 
 -- whether opens of the kind are made of no descriptor: those of processes and of ends of channels
 abbrev pub is_new : OpenKind → Bool
 is_new (End reads writes flags) = true
-is_new (Process p) = true
+is_new (Process p object) = true
 is_new _ = false
 
 -- the descriptor of such an open, with all rights of its type: it passes on none
@@ -187,6 +190,18 @@ abbrev pub came_for : After → Option Descriptor → List Descriptor
 came_for after None = []
 came_for after (Some d) = after.came d.id
 
+-- ---- signals
+
+-- what a process holds that raises a signal, by what that does to it
+abbrev pub raised_as : Raised → Row → Row
+raised_as ends row = no_row
+raised_as stops row = row
+raised_as passes row = row
+
+abbrev pub raised_row : Option Signal → Row → Row
+raised_row None row = row
+raised_row (Some signal) row = raised_as (raised_by signal) row
+
 -- ---- calls
 
 -- the row in which what stands under number n has those of its rights that are asked
@@ -201,8 +216,10 @@ lowered_row row n stat = with_held row n (option_map (λ d. lowered_to d stat) (
 -- fd_replace: under the number `to` stands what stands under `from`.
 -- fd_stat_put: the rights, which it sets where the flags have RIGHTS (2), are those held that are asked.
 -- file_open: under the number that is the result stands the open made there, with the rights asked that are of its type.
+-- proc_exec: under each number stands what stood under the one that the call lists in its place, and nothing under any other.
 -- proc_exit: nothing is held.
 -- proc_fork: under the number that is the result stands the open of the process that was made, with all rights of its type.
+-- proc_raise: nothing is held where the process ends by the signal.
 -- sock_recv: under the numbers in its reply stand the descriptors, in their order, that the first send carried that waited for its socket.
 -- thread_exit: nothing is held where the process has no thread left, since it ends with its last one.
 abbrev pub granted_row : After → Row → Call → Reply → Row
@@ -212,8 +229,10 @@ granted_row after row (FdDup fd) reply = with_held row reply.r1 (row fd)
 granted_row after row (FdReplace from to) reply = with_held row to (row from)
 granted_row after row (FdStatPut fd stat flags) reply = if bit_and flags 2 == 0 then row else lowered_row row fd stat
 granted_row after row (FileOpen lookup path oflags stat) reply = with_held row reply.r1 (opened_held (after.made 0) stat)
+granted_row after row (ProcExec fd bytes fds) reply = nth_held row fds
 granted_row after row (ProcExit code) reply = no_row
 granted_row after row (ProcFork left) reply = with_held row reply.r1 (new_held (after.made 0))
+granted_row after row (ProcRaise signal) reply = raised_row (signal_of signal) row
 granted_row after row (SockRecv fd length fds flags) reply = put_each row (installed_fds reply.payload) (came_for after (row fd))
 granted_row after row (ThreadExit lock word scope) reply = if after.threaded then row else no_row
 granted_row after row _ reply = row

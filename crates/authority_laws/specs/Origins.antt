@@ -12,6 +12,7 @@ use Rattle.tree_model.specs.Changes.{is_file}
 use Rattle.tree_model.specs.Tree.{HasName, below}
 use Rattle.run_types.specs.declared.history.Entry.{Entry}
 use Rattle.kernel_model.specs.Families.Opening.{opened_descriptor}
+use Rattle.kernel_model.specs.ForkLaws.{nth_held}
 use Rattle.kernel_model.specs.Proper.{IsIn}
 use Rattle.kernel_model.specs.Start.{granted_descriptor}
 use Rattle.kernel_model.specs.State.{State, Tree, tree_of}
@@ -97,6 +98,8 @@ pub data Change (after : After) (before then : Row) : Type 0 where
   makes : (n : ℕ) → then ≡ with_held before n (new_held (after.made 0)) → Change after before then
   -- so it is under m, and under n stands the open that was made before that
   makes_both : (n m : ℕ) → then ≡ with_held (with_held before n (new_held (after.made 1))) m (new_held (after.made 0)) → Change after before then
+  -- under each number stands what stood under the one that is listed in its place
+  lists : (fds : List ℕ) → then ≡ nth_held before fds → Change after before then
   -- under these numbers stands what the first send carried that waited for the open of what stands under fd
   receives : (fd : ℕ) (x : Descriptor) (fds : List ℕ) → before fd ≡ Some x → then ≡ put_each before fds (after.came x.id) → Change after before then
 

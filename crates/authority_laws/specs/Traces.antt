@@ -3,7 +3,7 @@ use Rattle.std.specs.Prelude.{◌≡◌, ◌≢◌, ◌⊎◌, ⊤, ℕ, bit_and
 use Rattle.std.specs.FinMap.{get}
 use Rattle.abi_base.specs.declared.grant.Grant.{Grant}
 use Rattle.abi_structures.specs.declared.structures.FdStat.{FdStat}
-use Rattle.abi_types.specs.declared.call.Call.TheVariants.{FdCreate2, FdDup, FdReplace, FdStatPut, FileOpen, ProcFork, SockRecv, SockSend}
+use Rattle.abi_types.specs.declared.call.Call.TheVariants.{FdCreate2, FdDup, FdReplace, FdStatPut, FileOpen, ProcExec, ProcFork, SockRecv, SockSend}
 use Rattle.abi_types.specs.declared.call.Lookup.{Lookup}
 use Rattle.abi_types.specs.declared.descriptor.Descriptor.{Descriptor}
 use Rattle.abi_types.specs.declared.open_kind.OpenKind.{OpenKind}
@@ -48,6 +48,15 @@ pub record OpensFrom (e : Entry) (fd to : ℕ) (stat : FdStat) : Type 0 where
   pub succeeds : Succeeds e (FileOpen lookup path oflags stat) reply
   pub from : fd ≡ lookup.fd
   pub result : to ≡ reply.r1
+
+-- the entry is a proc_exec that succeeded, which lists number m in the n-th place
+pub record Lists (e : Entry) (n m : ℕ) : Type 0 where
+  pub fd : ℕ
+  pub bytes : List ℕ
+  pub fds : List ℕ
+  pub reply : Reply
+  pub succeeds : Succeeds e (ProcExec fd bytes fds) reply
+  pub place : slice_get fds n ≡ Some m
 
 -- the entry is an fd_create2 or a proc_fork that succeeded, which makes opens of no descriptor, and n is one of its results
 abbrev pub Makes : Entry → ℕ → Type 0
@@ -132,6 +141,9 @@ pub data Traced (launch : Launch) : List Entry → ℕ → ℕ → Descriptor �
   -- the entry made the process, and the process that did the entry held it before, under the same number
   inherited : (front : List Entry) (e : Entry) (q n : ℕ) (d : Descriptor) → child_at launch front e ≡ Some q → Traced launch front e.pid n d
       → (ledger launch (front ++ e ∷ [])).held q n ≡ Some d → Traced launch (front ++ e ∷ []) q n d
+  -- the entry listed it for the program that began: the process held it before, under the number that is listed in this place
+  listed : (front : List Entry) (e : Entry) (n m : ℕ) (d : Descriptor) → Lists e n m → Traced launch front e.pid m d
+      → held_after launch front e n ≡ Some d → Traced launch (front ++ e ∷ []) e.pid n d
   -- it is of an open that the entry made of no descriptor, a process's or an end of channels
   made : (front : List Entry) (e : Entry) (n : ℕ) (d : Descriptor) → Makes e n
       → IsMade (world launch front).state (world launch (front ++ e ∷ [])).state d → held_after launch front e n ≡ Some d
@@ -153,6 +165,7 @@ root launch history p n d (copied front e from to copies c before) = root launch
 root launch history p n d (lowered front e m stat lowers l before) = root launch front e.pid m l.x before
 root launch history p n d (opened front e fd to stat opens o before) = root launch front e.pid fd o.x before
 root launch history p n d (inherited front e q m x child before here) = root launch front e.pid m x before
+root launch history p n d (listed front e k m x lists before here) = root launch front e.pid m x before
 root launch history p n d (made front e m x makes is here) = of_entry
 root launch history p n d (received front e m c x receives s before here) = root launch s.early s.sender.pid s.m x before
 
@@ -165,6 +178,7 @@ first_open launch history p n d (copied front e from to copies c before) = first
 first_open launch history p n d (lowered front e m stat lowers l before) = first_open launch front e.pid m l.x before
 first_open launch history p n d (opened front e fd to stat opens o before) = o.kind
 first_open launch history p n d (inherited front e q m x child before here) = first_open launch front e.pid m x before
+first_open launch history p n d (listed front e k m x lists before here) = first_open launch front e.pid m x before
 first_open launch history p n d (made front e m x makes is here) = is.kind
 first_open launch history p n d (received front e m c x receives s before here) = first_open launch s.early s.sender.pid s.m x before
 

@@ -11,6 +11,7 @@ use Rattle.abi_types.specs.declared.call.Call.TheVariants.{Memory, Refused, Unkn
 use Rattle.abi_types.specs.declared.call_number.CallNumber.{CallNumber}
 use Rattle.abi_types.specs.declared.call_number.CallNumber.TheVariants as number
 use Rattle.codec_arguments.specs.Bytes.{descriptors_in, number_in}
+use Rattle.codec_calls.specs.ProcessCalls.{proc_exec_of}
 use Rattle.codec_calls.specs.SocketCalls.{sock_send_of}
 use Rattle.guest_memory.specs.Page.{Pages}
 use Rattle.call_codec.specs.Arguments.{args_of, asked, built_reading, or_refused, or_unknown, read_of}
@@ -31,42 +32,47 @@ send_gives : (m : Pages) (r : Registers) → ((a n : ℕ) → IsRefusedAsListed 
     → Gives (λ call. read_under call ≡ Some number.SockSend) (sock_send_of m r)
 send_gives m r listed = search (readings, listed) depth 20
 
--- what is read of a call that is built is a call of its number; the first line makes the cases
-reading_gives : (m : Pages) (r : Registers) (it : CallNumber) → Gives (λ call. read_under call ≡ Some it) (built_reading m r it)
-unfolding read_of
-reading_gives m r number.FdClose = search readings depth 12
-reading_gives m r number.Poll = poll_gives (λ call. read_under call ≡ Some number.Poll) (λ subscriptions. refl) m r
-reading_gives m r number.SockSend = send_gives m r (λ a n. array_refused (number_in m) 4 a n (λ at. search readings depth 12))
-reading_gives m r _ = search readings depth 12
+exec_gives : (m : Pages) (r : Registers) → ((a n : ℕ) → IsRefusedAsListed (descriptors_in m a n))
+    → Gives (λ call. read_under call ≡ Some number.ProcExec) (proc_exec_of m r)
+exec_gives m r listed = search (readings, listed) depth 20
 
-abbrev IsReadUnder : Pages → Registers → Call → Option CallNumber → Type 0
-IsReadUnder m r call (Some it) = built_reading m r it ≡ Ok call
-IsReadUnder m r call None = ⊥
+-- what is read of a call that is built is a call of its number; the first line makes the cases
+reading_gives : (m : Pages) (r : Registers) (left : ℕ) (it : CallNumber) → Gives (λ call. read_under call ≡ Some it) (built_reading m r left it)
+unfolding read_of
+reading_gives m r left number.FdClose = search readings depth 12
+reading_gives m r left number.Poll = poll_gives (λ call. read_under call ≡ Some number.Poll) (λ subscriptions. refl) m r
+reading_gives m r left number.ProcExec = exec_gives m r (λ a n. array_refused (number_in m) 4 a n (λ at. search readings depth 12))
+reading_gives m r left number.SockSend = send_gives m r (λ a n. array_refused (number_in m) 4 a n (λ at. search readings depth 12))
+reading_gives m r left _ = search readings depth 12
+
+abbrev IsReadUnder : Pages → Registers → ℕ → Call → Option CallNumber → Type 0
+IsReadUnder m r left call (Some it) = built_reading m r left it ≡ Ok call
+IsReadUnder m r left call None = ⊥
 
 -- what the registers and the memory say of a call that they encode
-abbrev pub IsEncodedBy : Pages → Registers → Call → Type 0
-IsEncodedBy m r (Refused it errno) = IsListedRefusal errno
-IsEncodedBy m r (Unknown it) = Unit {0}
-IsEncodedBy m r call = IsReadUnder m r call (read_under call)
+abbrev pub IsEncodedBy : Pages → Registers → ℕ → Call → Type 0
+IsEncodedBy m r left (Refused it errno) = IsListedRefusal errno
+IsEncodedBy m r left (Unknown it) = Unit {0}
+IsEncodedBy m r left call = IsReadUnder m r left call (read_under call)
 
-under_number : (m : Pages) (r : Registers) (it : CallNumber) (call : Call) → read_under call ≡ Some it → built_reading m r it ≡ Ok call → IsEncodedBy m r call
-under_number m r it (Refused other errno) e is = absurd (cc)
-under_number m r it (Unknown other) e is = tt
-under_number m r it call e is = subst (IsReadUnder m r call) (sym e) is
+under_number : (m : Pages) (r : Registers) (left : ℕ) (it : CallNumber) (call : Call) → read_under call ≡ Some it → built_reading m r left it ≡ Ok call → IsEncodedBy m r left call
+under_number m r left it (Refused other errno) e is = absurd (cc)
+under_number m r left it (Unknown other) e is = tt
+under_number m r left it call e is = subst (IsReadUnder m r left call) (sym e) is
 
-refused_or_read : (m : Pages) (r : Registers) (it : CallNumber) (reading : Result Call Errno) → built_reading m r it ≡ reading
-    → Gives (λ call. read_under call ≡ Some it) reading → IsEncodedBy m r (or_refused it reading)
-refused_or_read m r it (Ok call) is gives = under_number m r it call (gives.value call refl) is
-refused_or_read m r it (Err errno) is gives = gives.refused errno refl
+refused_or_read : (m : Pages) (r : Registers) (left : ℕ) (it : CallNumber) (reading : Result Call Errno) → built_reading m r left it ≡ reading
+    → Gives (λ call. read_under call ≡ Some it) reading → IsEncodedBy m r left (or_refused it reading)
+refused_or_read m r left it (Ok call) is gives = under_number m r left it call (gives.value call refl) is
+refused_or_read m r left it (Err errno) is gives = gives.refused errno refl
 
-asked_for : (m : Pages) (r : Registers) (it : Option CallNumber) → IsEncodedBy m r (or_unknown r (λ known. or_refused known (built_reading m r known)) it)
-asked_for m r (Some it) = refused_or_read m r it (built_reading m r it) refl (reading_gives m r it)
-asked_for m r None = tt
+asked_for : (m : Pages) (r : Registers) (left : ℕ) (it : Option CallNumber) → IsEncodedBy m r left (or_unknown r (λ known. or_refused known (built_reading m r left known)) it)
+asked_for m r left (Some it) = refused_or_read m r left it (built_reading m r left it) refl (reading_gives m r left it)
+asked_for m r left None = tt
 
-pub args_encoded : (m : Pages) (r : Registers) → IsEncodedBy m r (args_of m r)
+pub args_encoded : (m : Pages) (r : Registers) (left : ℕ) → IsEncodedBy m r left (args_of m r left)
 unfolding args_of
-args_encoded m r = asked_for m r (asked r)
+args_encoded m r left = asked_for m r left (asked r)
 
 -- each error with which a call is refused is listed
-pub args_refusals : (m : Pages) (r : Registers) (it : CallNumber) (errno : Errno) → args_of m r ≡ Refused it errno → IsListedRefusal errno
-args_refusals m r it errno refused = subst (IsEncodedBy m r) refused (args_encoded m r)
+pub args_refusals : (m : Pages) (r : Registers) (left : ℕ) (it : CallNumber) (errno : Errno) → args_of m r left ≡ Refused it errno → IsListedRefusal errno
+args_refusals m r left it errno refused = subst (IsEncodedBy m r left) refused (args_encoded m r left)

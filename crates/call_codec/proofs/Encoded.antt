@@ -71,12 +71,12 @@ built_case : (built : Bool) (it : CallNumber) (reading : Result Call Errno) (cal
 built_case true it reading call e goes = e
 built_case false it reading call e goes = absurd (not_refused_so call it Nosys e goes)
 
-built_asked : (m : Pages) (r : Registers) (asks : Option CallNumber) (call : Call)
-    → call ≡ or_unknown r (λ known. or_refused known (built_reading m r known)) asks → ¬ IsRefused call
-    → call ≡ or_unknown r (λ known. or_refused known (read_of m r 0 known)) asks
-built_asked m r (Some it) call e goes = built_case (is_built it) it (read_of m r 0 it) call e goes
-built_asked m r None call e goes = e
+built_asked : (m : Pages) (r : Registers) (left : ℕ) (asks : Option CallNumber) (call : Call)
+    → call ≡ or_unknown r (λ known. or_refused known (built_reading m r left known)) asks → ¬ IsRefused call
+    → call ≡ or_unknown r (λ known. or_refused known (read_of m r left known)) asks
+built_asked m r left (Some it) call e goes = built_case (is_built it) it (read_of m r left it) call e goes
+built_asked m r left None call e goes = e
 
 pub built_encoded : BuiltIsEncoded
 unfolding args_of
-built_encoded m r call e goes = built_asked m r (asked r) call e goes
+built_encoded m r left call e goes = built_asked m r left (asked r) call e goes

@@ -159,39 +159,39 @@ succeeded_code : (m n : Pages) (errno : Errno) → (errno ≡ Success → KeepsC
 succeeded_code m n Success h = h refl
 succeeded_code m n other h = same_code m
 
-code_after : (m : Pages) (r : Registers) (call : Call) (writes : WordWrites) (given : Payload) → call ≡ args_of m r
+code_after : (m : Pages) (r : Registers) (left : ℕ) (call : Call) (writes : WordWrites) (given : Payload) → call ≡ args_of m r left
     → NoneExecutable m ((changed_pages r call).0 / 4096) (changed_pages r call).1 → KeepsCode m (memory_after (worded_memory m call writes) r call given)
-code_after m r (FdPread fd size offset) writes given encoded none = as_code m _ (keeps_content m r given)
-code_after m r (FdRead fd size) writes given encoded none = as_code m _ (keeps_content m r given)
-code_after m r (FdStatGet fd) writes given encoded none = as_code m _ (keeps_payload m (argument r 1) given)
-code_after m r (FileReaddir fd size cookie) writes given encoded none = as_code m _ (keeps_payload m (argument r 1) given)
-code_after m r (FileReadlink fd path size) writes given encoded none = as_code m _ (keeps_payload m (argument r 3) given)
-code_after m r (FileStatFget fd) writes given encoded none = as_code m _ (keeps_payload m (argument r 1) given)
-code_after m r (FileStatGet lookup path) writes given encoded none = as_code m _ (keeps_payload m (argument r 3) given)
-code_after m r (MemMap (At a) size prot flags fd offset) writes given encoded none =
-    let filled = mapping_filled m r a size prot flags fd offset given (sym encoded) in
+code_after m r left (FdPread fd size offset) writes given encoded none = as_code m _ (keeps_content m r given)
+code_after m r left (FdRead fd size) writes given encoded none = as_code m _ (keeps_content m r given)
+code_after m r left (FdStatGet fd) writes given encoded none = as_code m _ (keeps_payload m (argument r 1) given)
+code_after m r left (FileReaddir fd size cookie) writes given encoded none = as_code m _ (keeps_payload m (argument r 1) given)
+code_after m r left (FileReadlink fd path size) writes given encoded none = as_code m _ (keeps_payload m (argument r 3) given)
+code_after m r left (FileStatFget fd) writes given encoded none = as_code m _ (keeps_payload m (argument r 1) given)
+code_after m r left (FileStatGet lookup path) writes given encoded none = as_code m _ (keeps_payload m (argument r 3) given)
+code_after m r left (MemMap (At a) size prot flags fd offset) writes given encoded none =
+    let filled = mapping_filled m r left a size prot flags fd offset given (sym encoded) in
     outside_code m _ (a / 4096) (pages_in size) none filled.others
-code_after m r (MemMap (place.Refused errno) size prot flags fd offset) writes given encoded none = same_code m
-code_after m r (Memory number errno) writes given encoded none =
+code_after m r left (MemMap (place.Refused errno) size prot flags fd offset) writes given encoded none = same_code m
+code_after m r left (Memory number errno) writes given encoded none =
     succeeded_code m (with_change m r number) errno (λ done. changed_code m r number none)
-code_after m r (Poll subscriptions) writes given encoded none = as_code m _ (keeps_events m r writes given)
-code_after m r (RandomGet size) writes given encoded none = as_code m _ (keeps_payload m (argument r 0) given)
-code_after m r (SockRecv fd size fds flags) writes given encoded none = as_code m _ (keeps_received m r given)
-code_after m r (SockSend fd bytes fds flags) writes given encoded none = as_code m _ (keeps_sent m r given)
-code_after m r (ThreadExit lock word scope) writes given encoded none = words_keep_code m writes
-code_after m r _ writes given encoded none = same_code m
+code_after m r left (Poll subscriptions) writes given encoded none = as_code m _ (keeps_events m r writes given)
+code_after m r left (RandomGet size) writes given encoded none = as_code m _ (keeps_payload m (argument r 0) given)
+code_after m r left (SockRecv fd size fds flags) writes given encoded none = as_code m _ (keeps_received m r given)
+code_after m r left (SockSend fd bytes fds flags) writes given encoded none = as_code m _ (keeps_sent m r given)
+code_after m r left (ThreadExit lock word scope) writes given encoded none = words_keep_code m writes
+code_after m r left _ writes given encoded none = same_code m
 
 -- the answer is a reply that the call succeeded
 abbrev pub Succeeds : Answer → Type 0
 Succeeds (answer.Parked writes) = ⊥
 Succeeds (answer.Reply reply) = reply.errno ≡ Success
 
-pub code_is_kept : (m : Pages) (r : Registers) (call : Call) (given : Answer) → call ≡ args_of m r
+pub code_is_kept : (m : Pages) (r : Registers) (left : ℕ) (call : Call) (given : Answer) → call ≡ args_of m r left
     → (Succeeds given → NoneExecutable m ((changed_pages r call).0 / 4096) (changed_pages r call).1) → KeepsCode m (answered_memory m r call given)
-code_is_kept m r call (answer.Parked writes) encoded none = words_keep_code m writes
-code_is_kept m r call (answer.Reply reply) encoded none =
+code_is_kept m r left call (answer.Parked writes) encoded none = words_keep_code m writes
+code_is_kept m r left call (answer.Reply reply) encoded none =
     succeeded_code m (memory_after (worded_memory m call reply.writes) r call reply.payload) reply.errno
-    (λ done. code_after m r call reply.writes reply.payload encoded (none done))
+    (λ done. code_after m r left call reply.writes reply.payload encoded (none done))
 
 -- ---- a call in which a thread waited
 
@@ -217,6 +217,6 @@ room_code other numbers m none = none_keeps_code numbers m none
 pub answer_keeps_code : (m : Pages) (r : Registers) (call : Call) (given : Answer)
     → (Succeeds given → NoneExecutable m ((changed_pages r call).0 / 4096) (changed_pages r call).1) → AnswerKeepsCode m r call given
 answer_keeps_code m r call given none numbers room encoded q p there locked exec =
-    code_is_kept (without_each numbers m) r call given encoded
+    code_is_kept (without_each numbers m) r encoded.0 call given encoded.1
     (λ done i page within has. none done i page within (same_without numbers m i page has)) q p
     (room_code call numbers m room q p there locked exec) locked exec

@@ -11,6 +11,7 @@ pub mod Puts
 pub mod Outputs
 pub mod Sockets
 pub mod WokenOutputs
+pub mod ProcessLaws
 pub mod ThreadOutputs
 pub mod Mappings
 pub mod KeptCode

@@ -315,6 +315,6 @@ module _ (m : Pages) (a k : ℕ) (prot : Prot) (bytes : List ℕ) (page : a % 40
   are_filled = record { rights = rights; stands = stands; others = others }
 
 pub mapping_filled : MappingIsFilled
-mapping_filled m r a size prot flags fd offset payload encoded =
-    let may = call_suits m r (MemMap (At a) size prot flags fd offset) (sym encoded) in
+mapping_filled m r left a size prot flags fd offset payload encoded =
+    let may = call_suits m r left (MemMap (At a) size prot flags fd offset) (sym encoded) in
     are_filled m a _ _ _ may.page may.high

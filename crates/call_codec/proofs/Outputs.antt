@@ -135,11 +135,11 @@ pread_room m r fd most offset is =
 
 pub read_written : ReadIsWritten
 unfolding read_of
-read_written m r fd most encoded = takes_bytes m r most (read_room m r fd most (call_suits m r (FdRead fd most) (sym encoded)))
+read_written m r left fd most encoded = takes_bytes m r most (read_room m r fd most (call_suits m r left (FdRead fd most) (sym encoded)))
 
 pub pread_written : PreadIsWritten
 unfolding read_of
-pread_written m r fd most offset encoded = takes_bytes m r most (pread_room m r fd most offset (call_suits m r (FdPread fd most offset) (sym encoded)))
+pread_written m r left fd most offset encoded = takes_bytes m r most (pread_room m r fd most offset (call_suits m r left (FdPread fd most offset) (sym encoded)))
 
 -- ---- a descriptor's state
 
@@ -154,8 +154,8 @@ state_room m r fd is =
 
 pub state_written : StateIsWritten
 unfolding read_of
-state_written m r fd stat encoded =
-    write_made m (argument r 1) 24 (fdstat_bytes stat) (let all = fdstat_length stat in omega (arith, all)) (state_room m r fd (call_suits m r (FdStatGet fd) (sym encoded)))
+state_written m r left fd stat encoded =
+    write_made m (argument r 1) 24 (fdstat_bytes stat) (let all = fdstat_length stat in omega (arith, all)) (state_room m r fd (call_suits m r left (FdStatGet fd) (sym encoded)))
 
 -- ---- a directory's entries, and a symlink's text
 
@@ -186,13 +186,13 @@ link_room m r fd path room is =
 
 pub entries_written : EntriesAreWritten
 unfolding read_of
-entries_written m r fd room cookie encoded =
-    takes_up_to m (argument r 1) room (entries_room m r fd room cookie (call_suits m r (FileReaddir fd room cookie) (sym encoded)))
+entries_written m r left fd room cookie encoded =
+    takes_up_to m (argument r 1) room (entries_room m r fd room cookie (call_suits m r left (FileReaddir fd room cookie) (sym encoded)))
 
 pub link_written : LinkIsWritten
 unfolding read_of
-link_written m r fd path room encoded =
-    takes_up_to m (argument r 3) room (link_room m r fd path room (call_suits m r (FileReadlink fd path room) (sym encoded)))
+link_written m r left fd path room encoded =
+    takes_up_to m (argument r 3) room (link_room m r fd path room (call_suits m r left (FileReadlink fd path room) (sym encoded)))
 
 -- ---- a file's state
 
@@ -215,9 +215,9 @@ found_room m r lookup path is =
 
 pub open_state_written : OpenStateIsWritten
 unfolding read_of
-open_state_written m r fd encoded = takes_file_state m (argument r 1) (open_room m r fd (call_suits m r (FileStatFget fd) (sym encoded)))
+open_state_written m r left fd encoded = takes_file_state m (argument r 1) (open_room m r fd (call_suits m r left (FileStatFget fd) (sym encoded)))
 
 pub found_state_written : FoundStateIsWritten
 unfolding read_of
-found_state_written m r lookup path encoded =
-    takes_file_state m (argument r 3) (found_room m r lookup path (call_suits m r (FileStatGet lookup path) (sym encoded)))
+found_state_written m r left lookup path encoded =
+    takes_file_state m (argument r 3) (found_room m r lookup path (call_suits m r left (FileStatGet lookup path) (sym encoded)))

@@ -43,7 +43,7 @@ front_given (Ok x) (Ok xs) all e = let same : x ∷ xs ≡ all = cc e in (x, xs,
 front_given (Ok x) (Err errno) all e = absurd (cc e)
 front_given (Err errno) rest all e = absurd (cc e)
 
-array_length : {X : Type 0} (element : ℕ → Result X Errno) (width a n : ℕ) (all : List X) → array_at element width a n ≡ Ok all → length all ≡ n
+pub array_length : {X : Type 0} (element : ℕ → Result X Errno) (width a n : ℕ) (all : List X) → array_at element width a n ≡ Ok all → length all ≡ n
 unfolding array_at
 array_length element width a zero all e = let same : [] ≡ all = cc e in sym (ap length same)
 array_length element width a (suc n) all e =

@@ -42,11 +42,11 @@ use Rattle.call_codec.specs.Put.{HasFewRanges, KeepsPages, MayMapFor}
 use Rattle.call_codec.specs.MemoryCalls.{advise_errno, has_bits, is_aligned, is_guests, is_range, is_sync, pages_in, if_mapped, mem_map_of, protect_errno, sync_errno, unmap_errno, may_map, placed_map, place_at, place_in, place_in_gap, place_of, writes_and_executes, has_one, MayMapAt, MayMapThere}
 
 -- what these registers and this memory are like where they encode the call
-abbrev pub Suits : Pages → Registers → Call → Type 0
-Suits m r (MemMap place length prot flags fd offset) = MayMapThere m place (pages_in length)
-Suits m r (Memory it errno) =
+abbrev pub Suits : Pages → Registers → ℕ → Call → Type 0
+Suits m r left (MemMap place length prot flags fd offset) = MayMapThere m place (pages_in length)
+Suits m r left (Memory it errno) =
     errno ≡ Success → IsPageAddress (argument r 0) × (it ≡ number.MemProtect → AreThere m (argument r 0 / 4096) (pages_in (argument r 1)))
-Suits m r call = IsEncodedBy m r call
+Suits m r left call = IsEncodedBy m r left call
 
 aligned_is : (a : ℕ) → is_aligned a ≡ true → IsPageAddress a
 aligned_is a h = elim (eqb_tells (a % 4096) 0) [
@@ -82,13 +82,13 @@ IsAnsweredBy m r errno number.MemSync = sync_errno m r ≡ errno
 IsAnsweredBy m r errno number.MemUnmap = unmap_errno r ≡ errno
 IsAnsweredBy m r errno other = ⊥
 
-memory_is : (m : Pages) (r : Registers) (it : CallNumber) (errno : Errno) → IsEncodedBy m r (Memory it errno) → IsAnsweredBy m r errno it
+memory_is : (m : Pages) (r : Registers) (left : ℕ) (it : CallNumber) (errno : Errno) → IsEncodedBy m r left (Memory it errno) → IsAnsweredBy m r errno it
 unfolding read_of
-memory_is m r number.MemAdvise errno is = cc is
-memory_is m r number.MemProtect errno is = cc is
-memory_is m r number.MemSync errno is = cc is
-memory_is m r number.MemUnmap errno is = cc is
-memory_is m r it errno is = absurd is
+memory_is m r left number.MemAdvise errno is = cc is
+memory_is m r left number.MemProtect errno is = cc is
+memory_is m r left number.MemSync errno is = cc is
+memory_is m r left number.MemUnmap errno is = cc is
+memory_is m r left it errno is = absurd is
 
 -- an error that such a call may answer, or SUCCESS
 abbrev pub IsMemoryErrno : Errno → Type 0
@@ -123,8 +123,8 @@ answer_listed m r number.MemUnmap errno is =
     subst IsMemoryErrno is (either_errno (is_aligned (argument r 0) && is_range (argument r 0) (argument r 1)) Success Inval tt tt)
 answer_listed m r it errno is = absurd is
 
-pub memory_listed : (m : Pages) (r : Registers) (it : CallNumber) (errno : Errno) → IsEncodedBy m r (Memory it errno) → IsMemoryErrno errno
-memory_listed m r it errno is = answer_listed m r it errno (memory_is m r it errno is)
+pub memory_listed : (m : Pages) (r : Registers) (left : ℕ) (it : CallNumber) (errno : Errno) → IsEncodedBy m r left (Memory it errno) → IsMemoryErrno errno
+memory_listed m r left it errno is = answer_listed m r it errno (memory_is m r left it errno is)
 
 -- what isn't INVAL succeeded
 not_invalid : (test : Bool) (answered : Errno) → cond test answered Inval ≡ Success → (test ≡ true) × (answered ≡ Success)
@@ -138,28 +138,28 @@ not_unsupported false true answered e = absurd (cc)
 not_unsupported false false answered e = (refl, e)
 
 -- those that succeed have a page's address, and the pages of mem_protect are there
-success_suits : (m : Pages) (r : Registers) (it : CallNumber) → IsAnsweredBy m r Success it → Suits m r (Memory it Success)
-success_suits m r number.MemAdvise is done =
+success_suits : (m : Pages) (r : Registers) (left : ℕ) (it : CallNumber) → IsAnsweredBy m r Success it → Suits m r left (Memory it Success)
+success_suits m r left number.MemAdvise is done =
     let a = argument r 0 in let advice = low (argument r 2) in let known = nat_lt 0 advice && nat_le advice 6 in
     let succeeds = not_invalid (known && is_aligned a) (if_mapped m a (argument r 1)) is in
     (aligned_is a (second_true known (is_aligned a) succeeds.0), λ protects. absurd (cc))
-success_suits m r number.MemProtect is done =
+success_suits m r left number.MemProtect is done =
     let a = argument r 0 in let prot = low (argument r 2) in
     let succeeds = not_unsupported (nat_lt 7 prot || not (is_aligned a)) (writes_and_executes prot) (if_mapped m a (argument r 1)) is in
     (aligned_is a (or_not (nat_lt 7 prot) (is_aligned a) succeeds.0), λ protects. mapped_there m a (argument r 1) succeeds.1)
-success_suits m r number.MemSync is done =
+success_suits m r left number.MemSync is done =
     let a = argument r 0 in let known = is_sync (low (argument r 2)) in
     let succeeds = not_invalid (known && is_aligned a) (if_mapped m a (argument r 1)) is in
     (aligned_is a (second_true known (is_aligned a) succeeds.0), λ protects. absurd (cc))
-success_suits m r number.MemUnmap is done =
+success_suits m r left number.MemUnmap is done =
     let a = argument r 0 in let within = is_range a (argument r 1) in
     let succeeds = not_invalid (is_aligned a && within) Success is in
     (aligned_is a (first_true (is_aligned a) within succeeds.0), λ protects. absurd (cc))
-success_suits m r it is done = absurd is
+success_suits m r left it is done = absurd is
 
-memory_suits : (m : Pages) (r : Registers) (it : CallNumber) (errno : Errno) → IsEncodedBy m r (Memory it errno) → Suits m r (Memory it errno)
-memory_suits m r it errno is done =
-    success_suits m r it (subst (λ e. IsAnsweredBy m r e it) done (memory_is m r it errno is)) refl
+memory_suits : (m : Pages) (r : Registers) (left : ℕ) (it : CallNumber) (errno : Errno) → IsEncodedBy m r left (Memory it errno) → Suits m r left (Memory it errno)
+memory_suits m r left it errno is done =
+    success_suits m r left it (subst (λ e. IsAnsweredBy m r e it) done (memory_is m r left it errno is)) refl
 
 -- ---- where a mapping goes
 
@@ -218,29 +218,29 @@ place_good m a bytes prot flags offset x h =
     either_good m k (has_bits flags 2) (place_at m a k) (place_in_gap m k)
     (λ e. fixed_good m a k (and_not (has_bits flags 2) (is_aligned a && is_guests a k) within e)) (λ e. in_gap_good m k)
 
-map_suits : (m : Pages) (r : Registers) (call : Call) → mem_map_of m r ≡ Ok call → Suits m r call
-map_suits m r call is =
+map_suits : (m : Pages) (r : Registers) (left : ℕ) (call : Call) → mem_map_of m r ≡ Ok call → Suits m r left call
+map_suits m r left call is =
     let may = passed (may_map (argument r 0) (argument r 1) (low (argument r 2)) (low (argument r 3)) (argument r 5)) _ call is in
     let placed : placed_map m r ≡ call = cc may.2 in
-    subst (Suits m r) placed (place_good m (argument r 0) (argument r 1) (low (argument r 2)) (low (argument r 3)) (argument r 5) may.0 may.1)
+    subst (Suits m r left) placed (place_good m (argument r 0) (argument r 1) (low (argument r 2)) (low (argument r 3)) (argument r 5) may.0 may.1)
 
 -- ---- all of them
 
-suits : (m : Pages) (r : Registers) (call : Call) → IsEncodedBy m r call → Suits m r call
+suits : (m : Pages) (r : Registers) (left : ℕ) (call : Call) → IsEncodedBy m r left call → Suits m r left call
 unfolding read_of
-suits m r (MemMap place length prot flags fd offset) is = map_suits m r (MemMap place length prot flags fd offset) is
-suits m r (Memory it errno) is = memory_suits m r it errno is
-suits m r call is = is
+suits m r left (MemMap place length prot flags fd offset) is = map_suits m r left (MemMap place length prot flags fd offset) is
+suits m r left (Memory it errno) is = memory_suits m r left it errno is
+suits m r left call is = is
 
-pub call_suits : (m : Pages) (r : Registers) (call : Call) → call ≡ args_of m r → Suits m r call
-call_suits m r call encoded = suits m r call (subst (IsEncodedBy m r) (sym encoded) (args_encoded m r))
+pub call_suits : (m : Pages) (r : Registers) (left : ℕ) (call : Call) → call ≡ args_of m r left → Suits m r left call
+call_suits m r left call encoded = suits m r left call (subst (IsEncodedBy m r left) (sym encoded) (args_encoded m r left))
 
-may_map_suits : (m : Pages) (r : Registers) (call : Call) → Suits m r call → MayMapFor m call
-may_map_suits m r (MemMap place length prot flags fd offset) h = h
-may_map_suits m r call h = tt
+may_map_suits : (m : Pages) (r : Registers) (left : ℕ) (call : Call) → Suits m r left call → MayMapFor m call
+may_map_suits m r left (MemMap place length prot flags fd offset) h = h
+may_map_suits m r left call h = tt
 
-pub may_map_for : (m : Pages) (r : Registers) (call : Call) → call ≡ args_of m r → MayMapFor m call
-may_map_for m r call encoded = may_map_suits m r call (call_suits m r call encoded)
+pub may_map_for : (m : Pages) (r : Registers) (left : ℕ) (call : Call) → call ≡ args_of m r left → MayMapFor m call
+may_map_for m r left call encoded = may_map_suits m r left call (call_suits m r left call encoded)
 
 -- ---- iovec arrays
 
@@ -248,21 +248,21 @@ may_map_for m r call encoded = may_map_suits m r call (call_suits m r call encod
 few_iovecs : (count : ℕ) (rest : Unit {0} → Result Call Errno) (call : Call) → (refuse_when (has_many count) Inval >>= rest) ≡ Ok call → count ≤ 1024
 few_iovecs count rest call is = let few = not_refused (has_many count) Inval rest call is in ltb-false 1024 count few.0
 
-few_of_pread : (m : Pages) (r : Registers) (fd length offset : ℕ) → IsEncodedBy m r (FdPread fd length offset) → argument r 2 ≤ 1024
+few_of_pread : (m : Pages) (r : Registers) (left : ℕ) (fd length offset : ℕ) → IsEncodedBy m r left (FdPread fd length offset) → argument r 2 ≤ 1024
 unfolding read_of
-few_of_pread m r fd length offset is = few_iovecs (argument r 2) _ (FdPread fd length offset) is
+few_of_pread m r left fd length offset is = few_iovecs (argument r 2) _ (FdPread fd length offset) is
 
-few_of_read : (m : Pages) (r : Registers) (fd length : ℕ) → IsEncodedBy m r (FdRead fd length) → argument r 2 ≤ 1024
+few_of_read : (m : Pages) (r : Registers) (left : ℕ) (fd length : ℕ) → IsEncodedBy m r left (FdRead fd length) → argument r 2 ≤ 1024
 unfolding read_of
-few_of_read m r fd length is = few_iovecs (argument r 2) _ (FdRead fd length) is
+few_of_read m r left fd length is = few_iovecs (argument r 2) _ (FdRead fd length) is
 
-suits_few : (m : Pages) (r : Registers) (call : Call) → Suits m r call → HasFewRanges r call
-suits_few m r (FdPread fd length offset) is = few_of_pread m r fd length offset is
-suits_few m r (FdRead fd length) is = few_of_read m r fd length is
-suits_few m r call is = tt
+suits_few : (m : Pages) (r : Registers) (left : ℕ) (call : Call) → Suits m r left call → HasFewRanges r call
+suits_few m r left (FdPread fd length offset) is = few_of_pread m r left fd length offset is
+suits_few m r left (FdRead fd length) is = few_of_read m r left fd length is
+suits_few m r left call is = tt
 
 pub few_ranges : EncodedHasFewRanges
-few_ranges m r call encoded = suits_few m r call (call_suits m r call encoded)
+few_ranges m r left call encoded = suits_few m r left call (call_suits m r left call encoded)
 
 -- ---- calls that aren't about memory
 

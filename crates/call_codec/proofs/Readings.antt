@@ -6,7 +6,7 @@
 --     goes_on      after a step that gave a value comes the next
 use Rattle.std.proofs.Common.{◌≡◌, ℕ, zero, suc, ◌+◌, ◌%◌, ◌^◌, Bool, true, false, cond, List, [], ◌∷◌, Result, Ok, Err, refl, subst}
 use Rattle.abi_base.specs.declared.errno.Errno.{Errno}
-use Rattle.abi_base.specs.declared.errno.Errno.TheVariants.{Fault, Inval, Nosys, Notsup}
+use Rattle.abi_base.specs.declared.errno.Errno.TheVariants.{Fault, Inval, Nosys, Notsup, TooBig}
 use Rattle.guest_memory.specs.declared.fault.MemFault.{MemFault}
 use Rattle.codec_arguments.specs.Arrays.{array_at, in_front}
 use Rattle.codec_arguments.specs.Reading.{◌>>=◌, or_fault, refuse_when}
@@ -17,6 +17,7 @@ IsListedRefusal Fault = Unit {0}
 IsListedRefusal Inval = Unit {0}
 IsListedRefusal Nosys = Unit {0}
 IsListedRefusal Notsup = Unit {0}
+IsListedRefusal TooBig = Unit {0}
 IsListedRefusal other = ⊥
 
 -- each value that the reading gives has the property, and each error with which it refuses is listed

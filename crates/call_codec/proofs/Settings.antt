@@ -42,10 +42,10 @@ fine_sets flags fine =
     let first = neither (has_unknown flags 31) (flags == 0) third.0 in
     some_set flags first.0 first.1
 
-pub fput_sets_something : (m : Pages) (r : Registers) (fd : ℕ) (stat : FileStat) (flags : ℕ) → IsEncodedBy m r (FileStatFput fd stat flags)
+pub fput_sets_something : (m : Pages) (r : Registers) (left : ℕ) (fd : ℕ) (stat : FileStat) (flags : ℕ) → IsEncodedBy m r left (FileStatFput fd stat flags)
     → bit_and flags 31 ≢ 0
 unfolding read_of
-fput_sets_something m r fd stat flags is =
+fput_sets_something m r left fd stat flags is =
     let fine = not_refused (sets_wrongly (low (argument r 2))) Inval _ (FileStatFput fd stat flags) is in
     let read = passed (filestat_at m (argument r 1)) _ (FileStatFput fd stat flags) fine.1 in
     let same : low (argument r 2) ≡ flags = cc read.2 in

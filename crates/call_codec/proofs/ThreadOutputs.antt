@@ -43,8 +43,8 @@ random_room m r size is =
 
 pub random_written : RandomIsWritten
 unfolding read_of
-random_written m r size encoded =
-    let room = random_room m r size (call_suits m r (RandomGet size) (sym encoded)) in
+random_written m r left size encoded =
+    let room = random_room m r size (call_suits m r left (RandomGet size) (sym encoded)) in
     (room.0, λ bytes less. write_made m (argument r 0) size bytes less room.1)
 
 -- ---- thread_exit
@@ -60,8 +60,8 @@ exit_room m r lock word scope is =
 
 pub exit_word_written : ExitWordIsWritten
 unfolding read_of
-exit_word_written m r lock word scope becomes encoded =
-    word_written m lock becomes (exit_room m r lock word scope (call_suits m r (ThreadExit lock word scope) (sym encoded)))
+exit_word_written m r left lock word scope becomes encoded =
+    word_written m lock becomes (exit_room m r lock word scope (call_suits m r left (ThreadExit lock word scope) (sym encoded)))
 
 -- ---- thread_create
 
@@ -98,8 +98,8 @@ new_thread attributes tid fits aligned =
 
 pub thread_starts : ThreadStarts
 unfolding read_of
-thread_starts m r attributes tid encoded =
-    let is = call_suits m r (ThreadCreate attributes) (sym encoded) in
+thread_starts m r left attributes tid encoded =
+    let is = call_suits m r left (ThreadCreate attributes) (sym encoded) in
     let read = passed (threadattr_at m (argument r 0)) _ (ThreadCreate attributes) is in
     let fits = not_refused (stack_passes read.0) Inval _ (ThreadCreate attributes) read.2 in
     let aligned = not_refused (entry_misaligned read.0) Inval _ (ThreadCreate attributes) fits.1 in

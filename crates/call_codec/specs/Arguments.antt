@@ -1,6 +1,6 @@
 -- The call that a thread's registers and memory encode as it stands at an ECALL: the call's number is in a7, and its
 -- arguments are in a0 and the registers after it (x17, and x10 on: RISC-V ELF psABI, integer register convention).
-use Rattle.std.specs.Prelude.{ℕ, Bool, true, false, IsTrue, Option, Some, None, MatchOption, Result, Ok, Err, slice_get, slice_index, if◌then◌else◌}
+use Rattle.std.specs.Prelude.{◌≡◌, ℕ, Bool, true, false, IsTrue, Option, Some, None, MatchOption, Result, Ok, Err, slice_get, slice_index, if◌then◌else◌}
 use Rattle.abi_base.specs.declared.errno.Errno.{Errno}
 use Rattle.abi_base.specs.declared.errno.Errno.TheVariants.{Nosys}
 use Rattle.abi_base.specs.Registers.{Registers}
@@ -95,9 +95,6 @@ is_copied _ = false
 abbrev pub is_built : CallNumber → Bool
 is_built number.CondvarSignal = false
 is_built number.LockUnlock = false
-is_built number.ProcExec = false
-is_built number.ProcFork = false
-is_built number.ProcRaise = false
 is_built _ = true
 
 -- the call that a7 asks for, if its number is one's
@@ -122,10 +119,14 @@ or_unknown r encoded None = Unknown (slice_index r.x 17)
 abbrev pub encoded_call : Pages → Registers → ℕ → Call
 encoded_call m r left = or_unknown r (λ number. or_refused number (read_of m r left number)) (asked r)
 
--- The same of a program that runs: NOSYS for a call that isn't built. The turns left are 0, since no built call has them.
-abbrev pub built_reading : Pages → Registers → CallNumber → Result Call Errno
-built_reading m r number = if is_built number then read_of m r 0 number else Err Nosys
+-- the same of a program that runs: NOSYS for a call that isn't built
+abbrev pub built_reading : Pages → Registers → ℕ → CallNumber → Result Call Errno
+built_reading m r left number = if is_built number then read_of m r left number else Err Nosys
 
--- the call that the registers and the memory of a program that runs encode
-unfoldable pub args_of : Pages → Registers → Call
-args_of m r = or_unknown r (λ number. or_refused number (built_reading m r number)) (asked r)
+-- the call that the registers and the memory of a program that runs encode, whose process has so many turns left
+unfoldable pub args_of : Pages → Registers → ℕ → Call
+args_of m r left = or_unknown r (λ number. or_refused number (built_reading m r left number)) (asked r)
+
+-- they encode the call, however many turns are left
+abbrev pub Encodes : Pages → Registers → Call → Type 0
+Encodes m r call = (left : ℕ) × (call ≡ args_of m r left)

@@ -67,7 +67,7 @@ WokenWordIsWritten =
 
 -- registers that encoded a call with some memory name few ranges
 abbrev pub EncodedHasFewRanges : Type 0
-EncodedHasFewRanges = (m : Pages) (r : Registers) (call : Call) → call ≡ args_of m r → HasFewRanges r call
+EncodedHasFewRanges = (m : Pages) (r : Registers) (left : ℕ) (call : Call) → call ≡ args_of m r left → HasFewRanges r call
 
 abbrev pub IsRefused : Call → Type 0
 IsRefused (Refused number errno) = Unit {0}
@@ -75,4 +75,4 @@ IsRefused other = ⊥
 
 -- a call that isn't refused is encoded as if all calls were built
 abbrev pub BuiltIsEncoded : Type 0
-BuiltIsEncoded = (m : Pages) (r : Registers) (call : Call) → call ≡ args_of m r → ¬ IsRefused call → call ≡ encoded_call m r 0
+BuiltIsEncoded = (m : Pages) (r : Registers) (left : ℕ) (call : Call) → call ≡ args_of m r left → ¬ IsRefused call → call ≡ encoded_call m r left

@@ -11,3 +11,4 @@ pub mod Bounded
 pub mod Refusals
 pub mod StartBlock
 pub mod ThreadLaws
+pub mod Processes

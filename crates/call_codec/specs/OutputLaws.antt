@@ -49,15 +49,15 @@ TakesBytes m r most =
 
 -- Where fd_pread or fd_read is encoded, as many bytes as it asks for at most are written.
 abbrev pub PreadIsWritten : Type 0
-PreadIsWritten = (m : Pages) (r : Registers) (fd most offset : ℕ) → args_of m r ≡ FdPread fd most offset → TakesBytes m r most
+PreadIsWritten = (m : Pages) (r : Registers) (left fd most offset : ℕ) → args_of m r left ≡ FdPread fd most offset → TakesBytes m r most
 
 abbrev pub ReadIsWritten : Type 0
-ReadIsWritten = (m : Pages) (r : Registers) (fd most : ℕ) → args_of m r ≡ FdRead fd most → TakesBytes m r most
+ReadIsWritten = (m : Pages) (r : Registers) (left fd most : ℕ) → args_of m r left ≡ FdRead fd most → TakesBytes m r most
 
 -- Where fd_stat_get is encoded, a descriptor's state is written.
 abbrev pub StateIsWritten : Type 0
 StateIsWritten =
-    (m : Pages) (r : Registers) (fd : ℕ) (stat : FdStat) → args_of m r ≡ FdStatGet fd → IsOk (write_of m (argument r 1) (fdstat_bytes stat))
+    (m : Pages) (r : Registers) (left fd : ℕ) (stat : FdStat) → args_of m r left ≡ FdStatGet fd → IsOk (write_of m (argument r 1) (fdstat_bytes stat))
 
 -- bytes, as many as there is room for and 65,536 at most, are written from an address on
 abbrev pub TakesUpTo : Pages → ℕ → ℕ → Type 0
@@ -66,12 +66,12 @@ TakesUpTo m a room = (bytes : List ℕ) → length bytes ≤ min room MOST_TRANS
 -- Where file_readdir is encoded, as many bytes of entries as it has room for are written.
 abbrev pub EntriesAreWritten : Type 0
 EntriesAreWritten =
-    (m : Pages) (r : Registers) (fd room cookie : ℕ) → args_of m r ≡ FileReaddir fd room cookie → TakesUpTo m (argument r 1) room
+    (m : Pages) (r : Registers) (left fd room cookie : ℕ) → args_of m r left ≡ FileReaddir fd room cookie → TakesUpTo m (argument r 1) room
 
 -- Where file_readlink is encoded, as many bytes of the text as it has room for are written.
 abbrev pub LinkIsWritten : Type 0
 LinkIsWritten =
-    (m : Pages) (r : Registers) (fd : ℕ) (path : List ℕ) (room : ℕ) → args_of m r ≡ FileReadlink fd path room
+    (m : Pages) (r : Registers) (left fd : ℕ) (path : List ℕ) (room : ℕ) → args_of m r left ≡ FileReadlink fd path room
     → TakesUpTo m (argument r 3) room
 
 -- a file's state is written from an address on, all of its 56 bytes
@@ -80,17 +80,17 @@ TakesFileState m a = (stat : FileStat) → (length (filestat_bytes stat) ≡ 56)
 
 -- Where file_stat_fget or file_stat_get is encoded, a file's state is written.
 abbrev pub OpenStateIsWritten : Type 0
-OpenStateIsWritten = (m : Pages) (r : Registers) (fd : ℕ) → args_of m r ≡ FileStatFget fd → TakesFileState m (argument r 1)
+OpenStateIsWritten = (m : Pages) (r : Registers) (left fd : ℕ) → args_of m r left ≡ FileStatFget fd → TakesFileState m (argument r 1)
 
 abbrev pub FoundStateIsWritten : Type 0
 FoundStateIsWritten =
-    (m : Pages) (r : Registers) (lookup : Lookup) (path : List ℕ) → args_of m r ≡ FileStatGet lookup path
+    (m : Pages) (r : Registers) (left : ℕ) (lookup : Lookup) (path : List ℕ) → args_of m r left ≡ FileStatGet lookup path
     → TakesFileState m (argument r 3)
 
 -- Where random_get is encoded, it asks for at most 65,536 bytes, and as many are written.
 abbrev pub RandomIsWritten : Type 0
 RandomIsWritten =
-    (m : Pages) (r : Registers) (size : ℕ) → args_of m r ≡ RandomGet size
+    (m : Pages) (r : Registers) (left size : ℕ) → args_of m r left ≡ RandomGet size
     → (size ≤ MOST_RANDOM) × ((bytes : List ℕ) → length bytes ≤ size → IsOk (write_of m (argument r 0) bytes))
 
 -- From an address on an event is written, of 32 bytes, and as many events as there are places for, one directly behind the other, also
@@ -137,7 +137,7 @@ WordsAreWritten =
 -- Where thread_exit is encoded, the word of the lock that it lets go is written, whatever it becomes.
 abbrev pub ExitWordIsWritten : Type 0
 ExitWordIsWritten =
-    (m : Pages) (r : Registers) (lock word scope becomes : ℕ) → args_of m r ≡ ThreadExit lock word scope
+    (m : Pages) (r : Registers) (left lock word scope becomes : ℕ) → args_of m r left ≡ ThreadExit lock word scope
     → IsOk (write_of m lock (to_le_bytes w32 becomes))
 
 -- each number of a descriptor is written, one directly behind the other
@@ -192,5 +192,5 @@ pub record AreFilled (m : Pages) (a k : ℕ) (prot : Prot) (bytes : List ℕ) (a
 -- Where mem_map is encoded, the bytes that it gives stand in its pages, whatever their rights are.
 abbrev pub MappingIsFilled : Type 0
 MappingIsFilled =
-    (m : Pages) (r : Registers) (a size prot flags fd offset : ℕ) (payload : Payload) → args_of m r ≡ MemMap (At a) size prot flags fd offset
+    (m : Pages) (r : Registers) (left a size prot flags fd offset : ℕ) (payload : Payload) → args_of m r left ≡ MemMap (At a) size prot flags fd offset
     → AreFilled m a (pages_in size) (prot_of prot) (content_of payload) (memory_after m r (MemMap (At a) size prot flags fd offset) payload)

@@ -6,7 +6,7 @@ use Rattle.abi_base.specs.declared.address_space.TheConstants.{PAGE_SIZE}
 use Rattle.abi_types.specs.declared.reply.Answer.{Answer}
 use Rattle.abi_types.specs.declared.reply.Answer.TheVariants as answer
 use Rattle.abi_types.specs.declared.call.Call.{Call}
-use Rattle.abi_types.specs.declared.call.Call.TheVariants.{ClockResGet, ClockTimeGet, FdCreate2, FdDup, FdPread, FdPwrite, FdRead, FdSeek, FdStatGet, FdWrite, FileOpen, FileReaddir, FileReadlink, FileStatFget, FileStatGet, MemMap, Memory, Poll, RandomGet, SockRecv, SockSend, ThreadCreate, ThreadExit}
+use Rattle.abi_types.specs.declared.call.Call.TheVariants.{ClockResGet, ClockTimeGet, FdCreate2, FdDup, FdPread, FdPwrite, FdRead, FdSeek, FdStatGet, FdWrite, FileOpen, FileReaddir, FileReadlink, FileStatFget, FileStatGet, MemMap, Memory, Poll, ProcFork, RandomGet, SockRecv, SockSend, ThreadCreate, ThreadExit}
 use Rattle.abi_types.specs.declared.place.Place.{Place}
 use Rattle.abi_types.specs.declared.place.Place.TheVariants as place
 use Rattle.abi_types.specs.declared.place.Place.TheVariants.{At}
@@ -20,12 +20,12 @@ use Rattle.guest_memory.specs.Room.{without_each, AreRoom}
 use Rattle.guest_memory.specs.Written.{KeepsCode}
 use Rattle.codec_arguments.specs.Arguments.{argument}
 use Rattle.codec_arguments.specs.declared.ranges.TheConstants.{MOST_IOVECS}
-use Rattle.call_codec.specs.Arguments.{args_of}
+use Rattle.call_codec.specs.Arguments.{Encodes}
 use Rattle.call_codec.specs.MemoryCalls.{memory_with, on_success, pages_in, prot_of, with_mapping, IsSomewhere, MayMapThere}
 use Rattle.call_codec.specs.Output.{content_of, with_content, with_payload, with_received, with_sent, with_words}
 
 -- the results of a call that succeeded: clock_res_get and clock_time_get have nanoseconds; fd_dup, file_open and thread_create have the
--- new number, and fd_create2 has two; fd_pread, fd_pwrite, fd_read and fd_write have how many bytes went, and file_readdir and
+-- new number, fd_create2 has two, and proc_fork the new number and 0; fd_pread, fd_pwrite, fd_read and fd_write have how many bytes went, and file_readdir and
 -- file_readlink how many came; fd_seek has the new offset; mem_map has an address; poll has how many events came
 abbrev pub with_results : Registers → Call → Reply → Registers
 with_results r (ClockResGet clock) reply = with_x r 11 reply.r1
@@ -42,6 +42,7 @@ with_results r (FileReaddir fd length cookie) reply = with_x r 11 reply.r1
 with_results r (FileReadlink fd path length) reply = with_x r 11 reply.r1
 with_results r (MemMap place length prot flags fd offset) reply = with_x r 11 reply.r1
 with_results r (Poll subscriptions) reply = with_x r 11 reply.r1
+with_results r (ProcFork left) reply = with_x (with_x r 11 reply.r1) 12 reply.r2
 with_results r (ThreadCreate attributes) reply = with_x r 11 reply.r1
 with_results r other reply = r
 
@@ -122,5 +123,5 @@ IsRoomFor other numbers m = numbers ≡ []
 -- every page that may be executed, but not written, is the same after the answer, whichever pages are the room for it
 abbrev pub AnswerKeepsCode : Pages → Registers → Call → Answer → Type 0
 AnswerKeepsCode m r call answer =
-    (numbers : List ℕ) → IsRoomFor call numbers m → call ≡ args_of (without_each numbers m) r
+    (numbers : List ℕ) → IsRoomFor call numbers m → Encodes (without_each numbers m) r call
     → KeepsCode m (answered_memory (without_each numbers m) r call answer)

@@ -19,5 +19,5 @@ pub record IsNewThread (attributes : ThreadAttr) (tid : ℕ) (r : Registers) : T
 
 abbrev pub ThreadStarts : Type 0
 ThreadStarts =
-    (m : Pages) (r : Registers) (attributes : ThreadAttr) (tid : ℕ) → args_of m r ≡ ThreadCreate attributes
+    (m : Pages) (r : Registers) (left : ℕ) (attributes : ThreadAttr) (tid : ℕ) → args_of m r left ≡ ThreadCreate attributes
     → IsNewThread attributes tid (thread_registers attributes tid)

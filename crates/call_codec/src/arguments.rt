@@ -21,18 +21,17 @@ use codec_poll::poll;
 use guest_memory::GuestMemory;
 use std::alloc::{AllocError, Global};
 
-/// The call that the registers and the memory of a program that runs encode as a thread stands at an ECALL. A call that its
-/// arguments refuse is `Refused`, with its number and its error; so is one that isn't built, with NOSYS. Only mem_advise,
-/// mem_protect, mem_sync and mem_unmap are never refused so: they are `Memory`, with what they answer.
+/// The call that the registers and the memory of a program that runs encode as a thread stands at an ECALL, whose process has so many
+/// turns left. A call that its arguments refuse is `Refused`, with its number and its error; so is one that isn't built, with NOSYS.
+/// Only mem_advise, mem_protect, mem_sync and mem_unmap are never refused so: they are `Memory`, with what they answer.
 #[tactic(auto, unfolding(crate::specs::Arguments::args_of))]
-pub fn args(alloc: Global, regs: &Regs, memory: &GuestMemory) -> Result<Call, AllocError>
-    ensures ok { IfOk result (λ call. call ≡ args_of memory.now regs.now) }
+pub fn args(alloc: Global, regs: &Regs, memory: &GuestMemory, left: u64) -> Result<Call, AllocError>
+    ensures ok { IfOk result (λ call. call ≡ args_of memory.now regs.now left) }
     ensures only { OnErr result (AsksFor (λ number. is_built number && is_copied number) regs.now) }
 {
     let asked = regs.get(17);
     match CallNumber::of(asked) {
-        // proc_fork alone asks how many turns are left, and it isn't built.
-        Some(number) if is_built(number) => read_or_refuse(alloc, regs, memory, 0, number),
+        Some(number) if is_built(number) => read_or_refuse(alloc, regs, memory, left, number),
         Some(number) => Ok(Call::Refused {
             number,
             errno: Errno::Nosys,
@@ -41,7 +40,7 @@ pub fn args(alloc: Global, regs: &Regs, memory: &GuestMemory) -> Result<Call, Al
     }
 }
 
-/// The same for all 49 calls, of a process that has so many turns left.
+/// The same for all 49 calls.
 pub fn read_call(
     alloc: Global,
     regs: &Regs,
@@ -117,7 +116,10 @@ fn is_built(number: CallNumber) -> bool
         | CallNumber::MemSync
         | CallNumber::MemUnmap
         | CallNumber::Poll
+        | CallNumber::ProcExec
         | CallNumber::ProcExit
+        | CallNumber::ProcFork
+        | CallNumber::ProcRaise
         | CallNumber::RandomGet
         | CallNumber::SockRecv
         | CallNumber::SockSend
@@ -125,11 +127,7 @@ fn is_built(number: CallNumber) -> bool
         | CallNumber::ThreadCreate
         | CallNumber::ThreadExit
         | CallNumber::ThreadYield => true,
-        CallNumber::CondvarSignal
-        | CallNumber::LockUnlock
-        | CallNumber::ProcExec
-        | CallNumber::ProcFork
-        | CallNumber::ProcRaise => false,
+        CallNumber::CondvarSignal | CallNumber::LockUnlock => false,
     }
 }
 

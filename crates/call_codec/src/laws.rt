@@ -3,6 +3,7 @@ ghost use Rattle.call_codec.specs.GivenLaws.{BuiltIsEncoded, EncodedHasFewRanges
 ghost use Rattle.call_codec.specs.GivenLaws.{WokenSentIsWritten, WokenWordIsWritten};
 ghost use Rattle.call_codec.specs.OutputLaws.{EntriesAreWritten, EventsAreWritten, ExitWordIsWritten, FoundStateIsWritten, LinkIsWritten, MappingIsFilled, MessageIsWritten};
 ghost use Rattle.call_codec.specs.OutputLaws.{OpenStateIsWritten, PreadIsWritten, RandomIsWritten, ReadIsWritten, SentIsWritten, StateIsWritten, WordsAreWritten};
+ghost use Rattle.call_codec.specs.Processes.{ChildGoesOn, ExecIsBounded, ForkHasTurns, RaisedIsSignal};
 ghost use Rattle.call_codec.specs.Refusals.{AdviseIsListed, MapIsListed, ProtectIsListed, SyncIsListed, UnmapIsListed};
 ghost use Rattle.call_codec.specs.StartBlock.{ArgdataStands, CanaryStands, VectorStands};
 ghost use Rattle.call_codec.specs.ThreadLaws.{ThreadStarts};
@@ -27,6 +28,15 @@ pub fn start_block_stands()
 /// A thread that is made starts with the registers that its maker asked for, and an instruction can stand at its entry.
 pub fn threads_start()
     ensures { ThreadStarts }
+{}
+
+/// A child goes on where its parent does, with all that its parent has but for the results of the fork. A fork is asked for with the turns
+/// that are left, a program with argument data and descriptors that are not too many, and a signal that is raised is one.
+pub fn processes_go_on()
+    ensures child { ChildGoesOn }
+    ensures fork { ForkHasTurns }
+    ensures exec { ExecIsBounded }
+    ensures raise { RaisedIsSignal }
 {}
 
 /// The output of a call that registers and memory encode is written whole: no write of bytes that were read, as many as the call

@@ -3,7 +3,7 @@ ghost use Rattle.std.specs.Prelude.{◌≡◌, ◌≤◌, ◌/◌, ◌^◌};
 ghost use Rattle.abi_types.specs.declared.call_number.CallNumber.TheVariants as number;
 ghost use Rattle.abi_types.specs.declared.place.Place.TheVariants as place;
 ghost use Rattle.codec_arguments.specs.Arguments.{argument};
-ghost use Rattle.call_codec.specs.Arguments.{args_of};
+ghost use Rattle.call_codec.specs.Arguments.{Encodes};
 ghost use Rattle.call_codec.specs.MemoryCalls.{MayMapAt, MayMapThere, with_change, with_mapping, pages_in, prot_of};
 ghost use Rattle.call_codec.specs.Given.{CanWait};
 ghost use Rattle.call_codec.specs.Put.{answered_memory, answered_of, memory_after, put_of, with_results, worded_memory};
@@ -32,7 +32,7 @@ pub fn put_answer(
     call: &Call,
     answer: &Answer,
 )
-    requires encoded { call.now ≡ args_of (without_each room memory.old) regs.old }
+    requires encoded { Encodes (without_each room memory.old) regs.old call.now }
     requires room { IsRoomFor call.now room memory.old }
     ensures regs { regs.new ≡ answered_of regs.old call.now answer.now }
     ensures memory { memory.new ≡ answered_memory (without_each room memory.old) regs.old call.now answer.now }
@@ -104,7 +104,7 @@ fn put_results(regs: &mut Regs, call: &Call, reply: &Reply)
         | Call::MemMap { .. }
         | Call::Poll { .. }
         | Call::ThreadCreate { .. } => regs.set(11, reply.r1),
-        Call::FdCreate2 { .. } => {
+        Call::FdCreate2 { .. } | Call::ProcFork { .. } => {
             regs.set(11, reply.r1);
             regs.set(12, reply.r2);
         }
@@ -125,7 +125,7 @@ fn prot_of(bits: u32) -> Prot
 
 // The memory after a call that succeeded with this reply.
 fn put_memory(regs: &Regs, memory: &mut GuestMemory, room: Room, call: &Call, reply: &Reply)
-    requires encoded { call.now ≡ args_of (without_each room memory.old) regs.now }
+    requires encoded { Encodes (without_each room memory.old) regs.now call.now }
     requires room { IsRoomFor call.now room memory.old }
     ensures { memory.new ≡ memory_after (worded_memory (without_each room memory.old) call.now reply.now.writes) regs.now call.now reply.now.payload }
 {

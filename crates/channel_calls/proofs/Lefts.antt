@@ -75,7 +75,7 @@ other_left (File node offset flags) m goes other = none_left_by (File node offse
 other_left (Directory node flags) m goes other = none_left_by (Directory node flags) m goes (λ q. (refl, refl))
 other_left (End reads writes flags) m goes other = absurd (other reads writes flags refl)
 other_left (Terminal which flags) m goes other = none_left_by (Terminal which flags) m goes (λ q. (refl, refl))
-other_left (Process p) m goes other = none_left_by (Process p) m goes (λ q. (refl, refl))
+other_left (Process p object) m goes other = none_left_by (Process p object) m goes (λ q. (refl, refl))
 
 -- ---- one side
 

@@ -37,4 +37,4 @@ send_keeps v bytes carried (End None writes flags) table = refl
 send_keeps v bytes carried (File node offset flags) table = refl
 send_keeps v bytes carried (Directory node flags) table = refl
 send_keeps v bytes carried (Terminal which flags) table = refl
-send_keeps v bytes carried (Process p) table = refl
+send_keeps v bytes carried (Process p object) table = refl

@@ -186,6 +186,13 @@ impl Channels {
         }
     }
 
+    /// Notes that a thread is to be looked at again, since its process has ended, or another program began in it.
+    pub fn wake(&mut self, thread: ThreadOf)
+        ensures { self.new ≡ self.old }
+    {
+        self.wakes.add(thread);
+    }
+
     /// Whether some thread is to be looked at again.
     pub fn has_wakes(&self) -> bool {
         !self.wakes.is_empty()

@@ -3,7 +3,6 @@ ghost use Rattle.std.specs.Prelude.{◌≡◌};
 
 use crate::outside::Outside;
 use abi_types::{Pid, Tid};
-use guest_process::FIRST_THREAD;
 use kernel_cell::{Idled, Naming, Times};
 use kernel_core::Wakes;
 use process_cell::{Did, Process};
@@ -34,15 +33,15 @@ impl<J: Naming> Ticket for ThreadTicket<J> {
 }
 
 impl<J: Naming> ThreadTicket<J> {
-    /// The ticket of a process's first thread. `Err` where memory ran out.
-    pub fn new(alloc: Global, process: Process<J>) -> Result<ThreadTicket<J>, AllocError> {
+    /// The ticket of the only thread of a process, which has this number. `Err` where memory ran out.
+    pub fn new(
+        alloc: Global,
+        process: Process<J>,
+        tid: Tid,
+    ) -> Result<ThreadTicket<J>, AllocError> {
         let pid = process.pid();
         let process = Arc::new(alloc, Mutex::new(process))?;
-        Ok(ThreadTicket {
-            pid,
-            tid: FIRST_THREAD,
-            process,
-        })
+        Ok(ThreadTicket { pid, tid, process })
     }
 
     // The ticket of another thread of its process. `Err` where memory ran out.
@@ -70,8 +69,9 @@ pub enum Task<J: Naming> {
 /// What a worker did.
 #[derive(Drop)]
 pub enum Done<J: Naming> {
-    /// Steps of a thread, which came to this; and the run's moment then, until when the thread waits, and whom else to look at again.
-    Ran(ThreadTicket<J>, Did, Times),
+    /// Steps of a thread, which came to this, and the ticket of the child that the last one made, if it made one; and the run's moment
+    /// then, until when the thread waits, whom else to look at again, and whether its process is live.
+    Ran(ThreadTicket<J>, Did, Option<ThreadTicket<J>>, Times),
     /// It asked the kernel to let time go on, which came to this; and the run's moment then.
     Idled(Idled, u64),
 }
@@ -129,11 +129,15 @@ impl<J: Naming> Board<J> {
     }
 
     // Takes a ticket back from the worker that had it and came to this with it. The ticket of a thread that goes on, or that waits and was
-    // marked, stands behind those that are ready. A thread that was made has a ticket from then on, and one that has ended has none.
-    fn take_back(&mut self, ticket: ThreadTicket<J>, did: Did, until: Option<u64>) {
+    // marked, stands behind those that are ready. A thread that was made has a ticket from then on, and one that has ended has none, also
+    // where others ended its process meanwhile.
+    fn take_back(&mut self, ticket: ThreadTicket<J>, did: Did, until: Option<u64>, live: bool) {
         let wake = self.outside.leave(ticket.pid);
         match did {
-            Did::Runs | Did::Yields => self.put(ticket),
+            Did::NoMemory => self.stops = true,
+            Did::ThreadGone | Did::ProcessGone => {}
+            _ if !live => {}
+            Did::Runs | Did::Yields | Did::Forks | Did::Begun => self.put(ticket),
             Did::Started(tid) => {
                 match ticket.beside(tid) {
                     Ok(started) => self.put(started),
@@ -143,8 +147,6 @@ impl<J: Naming> Board<J> {
             }
             Did::Parks | Did::NotReady if wake => self.put(ticket),
             Did::Parks | Did::NotReady => self.park(ticket, until),
-            Did::ThreadGone | Did::ProcessGone => {}
-            Did::NoMemory => self.stops = true,
         }
     }
 
@@ -164,18 +166,23 @@ impl<J: Naming> Board<J> {
     }
 
     /// Takes what a worker did that was at work. Threads whose deadline has come by then are ready, while others go on running. Those that are
-    /// to be looked at again are taken before its ticket, since its own thread may be one of them.
+    /// to be looked at again are taken before its ticket, since its own thread may be one of them. Tickets of processes that have ended are
+    /// among them, so that each is handed out once more and is dropped.
     pub fn take_done(&mut self, done: Done<J>) {
         self.at_work = self.at_work.saturating_sub(1);
         match done {
-            Done::Ran(ticket, did, times) => {
+            Done::Ran(ticket, did, child, times) => {
                 let Times {
                     moment,
                     until,
                     wakes,
+                    live,
                 } = times;
                 self.take_wakes(wakes);
-                self.take_back(ticket, did, until);
+                if let Some(child) = child {
+                    self.put(child);
+                }
+                self.take_back(ticket, did, until, live);
                 self.queue.revive_due(moment);
             }
             Done::Idled(idled, moment) => self.take_idled(idled, moment),

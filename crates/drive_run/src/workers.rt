@@ -1,8 +1,9 @@
 //! The workers of a run. Each takes a ticket, takes turns of its thread, and gives it back. Where all threads wait, one worker lets time
 //! go on.
 use crate::board::{Board, Done, Task, ThreadTicket};
+use guest_process::FIRST_THREAD;
 use kernel_cell::{Cell, Naming};
-use process_cell::{Did, Gate, Process};
+use process_cell::{Did, Gate, Phase, Process};
 use std::alloc::Global;
 use std::sync::{Condvar, Mutex, Wait};
 use std::thread;
@@ -41,7 +42,31 @@ impl<J: Naming> Workplace<J> {
     }
 }
 
-// Steps of a ticket's thread, under the memory lock of its process, until it gives way to others or can't go on.
+// Makes the proc_fork at which a process's thread stands, and the ticket of the child, if there is one. Where memory runs out for the ticket
+// the child is lost, and with it the run.
+fn fork<J: Naming, R: Wait, G: Gate>(
+    rt: &R,
+    alloc: Global,
+    cell: &Cell<J>,
+    process: &mut Process<J>,
+    gate: &G,
+    worker: u32,
+) -> (Did, Option<ThreadTicket<J>>) {
+    let Phase::Forks(tid) = process.phase() else {
+        return (Did::Forks, None);
+    };
+    let (did, child) = process.fork(rt, alloc, cell, gate, worker, tid);
+    let Some(child) = child else {
+        return (did, None);
+    };
+    match ThreadTicket::new(alloc, child, tid) {
+        Ok(ticket) => (did, Some(ticket)),
+        Err(_) => (Did::NoMemory, None),
+    }
+}
+
+// Steps of a ticket's thread, under the memory lock of its process, until it gives way to others or can't go on; and the ticket of the child
+// that the last step made, if it made one.
 fn run_ticket<J: Naming, R: Wait, G: Gate>(
     rt: &R,
     alloc: Global,
@@ -49,15 +74,19 @@ fn run_ticket<J: Naming, R: Wait, G: Gate>(
     ticket: &ThreadTicket<J>,
     gate: &G,
     worker: u32,
-) -> Did {
+) -> (Did, Option<ThreadTicket<J>>) {
     let mut process = ticket.process.lock(rt);
     for _ in 0..STEPS {
-        match process.step(rt, alloc, cell, gate, worker, ticket.tid()) {
+        let (did, child) = match process.step(rt, alloc, cell, gate, worker, ticket.tid()) {
+            Did::Forks => fork(rt, alloc, cell, &mut process, gate, worker),
+            did => (did, None),
+        };
+        match did {
             Did::Runs => {}
-            did => return did,
+            did => return (did, child),
         }
     }
-    Did::Runs
+    (Did::Runs, None)
 }
 
 // The work of one worker, until there is nothing more to do.
@@ -73,9 +102,9 @@ fn work<J: Naming, R: Wait, G: Gate>(
     for _ in rt.forever() {
         done = match workplace.next(rt, done) {
             Task::Run(ticket) => {
-                let did = run_ticket(rt, alloc, cell, &ticket, gate, worker);
+                let (did, child) = run_ticket(rt, alloc, cell, &ticket, gate, worker);
                 let times = cell.times(rt, ticket.pid(), ticket.tid());
-                Some(Done::Ran(ticket, did, times))
+                Some(Done::Ran(ticket, did, child, times))
             }
             Task::Idle => {
                 let idled = cell.idle(rt, alloc);
@@ -96,7 +125,7 @@ pub fn run_process<J: Naming + Send + Sync, R: Threads + Wait + Sync, G: Gate + 
     workers: u32,
     gate: &G,
 ) {
-    let Ok(ticket) = ThreadTicket::new(alloc, process) else {
+    let Ok(ticket) = ThreadTicket::new(alloc, process, FIRST_THREAD) else {
         return;
     };
     let Ok(mut board) = Board::new(alloc, workers) else {

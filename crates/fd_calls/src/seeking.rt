@@ -73,6 +73,6 @@ pub(crate) fn fd_seek(tree: &Tree, kind: &mut OpenKind, bits: u64, whence: u32) 
         OpenKind::Directory { .. }
         | OpenKind::End { .. }
         | OpenKind::Terminal { .. }
-        | OpenKind::Process(_) => refused(Errno::Badf),
+        | OpenKind::Process { .. } => refused(Errno::Badf),
     }
 }

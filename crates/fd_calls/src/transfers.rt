@@ -37,7 +37,7 @@ pub(crate) fn fd_read(
         OpenKind::Directory { .. }
         | OpenKind::End { .. }
         | OpenKind::Terminal { .. }
-        | OpenKind::Process(_) => Ok(refused(Errno::Badf)),
+        | OpenKind::Process { .. } => Ok(refused(Errno::Badf)),
     }
 }
 
@@ -86,6 +86,6 @@ pub(crate) fn fd_write(
         OpenKind::Directory { .. }
         | OpenKind::End { .. }
         | OpenKind::Terminal { .. }
-        | OpenKind::Process(_) => Ok(refused(Errno::Badf)),
+        | OpenKind::Process { .. } => Ok(refused(Errno::Badf)),
     }
 }

@@ -208,7 +208,7 @@ pub(crate) fn file_allocate(
         OpenKind::Directory { .. }
         | OpenKind::End { .. }
         | OpenKind::Terminal { .. }
-        | OpenKind::Process(_) => Ok(refused(Errno::Badf)),
+        | OpenKind::Process { .. } => Ok(refused(Errno::Badf)),
     }
 }
 
@@ -241,7 +241,7 @@ pub(crate) fn file_stat_fput(
             put_times(tree, *node, now, stat, flags);
             Ok(done(tree, *node))
         }
-        OpenKind::End { .. } | OpenKind::Terminal { .. } | OpenKind::Process(_) => {
+        OpenKind::End { .. } | OpenKind::Terminal { .. } | OpenKind::Process { .. } => {
             Ok(refused(Errno::Badf))
         }
     }

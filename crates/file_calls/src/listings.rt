@@ -150,6 +150,6 @@ pub(crate) fn file_readdir(
         OpenKind::File { .. }
         | OpenKind::End { .. }
         | OpenKind::Terminal { .. }
-        | OpenKind::Process(_) => Ok(refused(Errno::Badf)),
+        | OpenKind::Process { .. } => Ok(refused(Errno::Badf)),
     }
 }

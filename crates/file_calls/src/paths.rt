@@ -86,7 +86,7 @@ pub fn walked(tree: &Tree, mode: WalkMode, path: &[u8], kind: &OpenKind) -> Resu
         OpenKind::File { .. }
         | OpenKind::End { .. }
         | OpenKind::Terminal { .. }
-        | OpenKind::Process(_) => Err(PathFault::Errno(Errno::Badf)),
+        | OpenKind::Process { .. } => Err(PathFault::Errno(Errno::Badf)),
     }
 }
 

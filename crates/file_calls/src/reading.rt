@@ -52,7 +52,7 @@ pub(crate) fn fd_pread(
         OpenKind::Directory { .. }
         | OpenKind::End { .. }
         | OpenKind::Terminal { .. }
-        | OpenKind::Process(_) => Ok(refused(Errno::Badf)),
+        | OpenKind::Process { .. } => Ok(refused(Errno::Badf)),
     }
 }
 

@@ -31,7 +31,7 @@ pub fn type_number(kind: &OpenKind) -> u8
         } => 130,
         OpenKind::End { .. } => 48,
         OpenKind::Terminal { .. } => 17,
-        OpenKind::Process(_) => 80,
+        OpenKind::Process { .. } => 80,
     }
 }
 
@@ -130,9 +130,7 @@ pub(crate) fn file_stat_fget(tree: &Tree, kind: &OpenKind) -> Reply
         OpenKind::Terminal { which, .. } => {
             reported(object_stat(stream_number(*which), type_number(kind)))
         }
-        OpenKind::Process(number) => {
-            reported(object_stat(u64::from(number.0), type_number(kind)))
-        }
+        OpenKind::Process { object, .. } => reported(object_stat(object.0, type_number(kind))),
         OpenKind::End {
             reads: None,
             writes: None,

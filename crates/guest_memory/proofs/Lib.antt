@@ -1,5 +1,4 @@
 pub mod EachByte
-pub mod Copied
 pub mod KeptLimits
 pub mod PageRanges
 pub mod Runs

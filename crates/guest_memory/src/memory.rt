@@ -39,17 +39,12 @@ impl GuestMemory {
         }
     }
 
-    /// An equal memory, unless memory runs out.
-    pub fn copy(&self, alloc: Global) -> Result<Self, AllocError>
-        ensures { IfOk result (λ made. made ≡ self.now) }
+    /// An equal memory, for a child of the process that has this one. `Err` where memory ran out.
+    pub fn fork(&mut self, alloc: Global) -> Result<Self, AllocError>
+        ensures made { IfOk result (λ made. made ≡ self.old) }
+        ensures same { self.new ≡ self.old }
     {
-        let mut pages = PageTable::new(alloc);
-        let mut from = 0;
-        while let Some(number) = self.pages.first_from(from) {
-            let page = self.pages.get(number).unwrap();
-            pages.insert(number, page.copy(alloc)?)?;
-            from = number + 1;
-        }
+        let pages = self.pages.fork(alloc)?;
         Ok(GuestMemory { pages })
     }
 

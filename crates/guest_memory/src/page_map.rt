@@ -80,7 +80,7 @@ pub fn add_pages(
     ensures err { OnErr result (AreSameOutside pages.old first count pages.new) }
 {
     for index in 0..count {
-        pages.insert(first + index, MappedPage::new(alloc, prot)?)?;
+        pages.insert(alloc, first + index, MappedPage::new(prot))?;
     }
     Ok(())
 }

@@ -137,10 +137,11 @@ fn add_page_listed(
     if pages.contains(number) {
         return Ok(());
     }
-    let page = MappedPage::new(*added.allocator(), NO_RIGHTS)?;
+    let alloc = *added.allocator();
+    let page = MappedPage::new(NO_RIGHTS);
     // The number goes first, so that there is never a page that the list doesn't name.
     added.push(number)?;
-    pages.insert(number, page)?;
+    pages.insert(alloc, number, page)?;
     Ok(())
 }
 

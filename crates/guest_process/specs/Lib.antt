@@ -1,2 +1,4 @@
 pub mod Codes
 pub mod Room
+pub mod Children
+pub mod Programs

@@ -1,7 +1,7 @@
 //! A process as the machine has it: its memory, its threads' registers, and the turns that it has left.
-ghost use Rattle.std.specs.Prelude.{◌≡◌, ◌&&◌, ◌<◌, IsFalse, IsSome, IfOk, OnErr, true};
+ghost use Rattle.std.specs.Prelude.{◌≡◌, ◌&&◌, ◌<◌, IsFalse, IsSome, ℕ, IfOk, OnErr, true};
 ghost use Rattle.std.specs.FinMap as map;
-ghost use Rattle.call_codec.specs.Arguments.{args_of, is_built, is_copied, AsksFor};
+ghost use Rattle.call_codec.specs.Arguments.{args_of, is_built, is_copied, AsksFor, Encodes};
 ghost use Rattle.call_codec.specs.Given.{given_of, CanWait};
 ghost use Rattle.call_codec.specs.Put.{HasFewRanges, MayMapFor};
 ghost use Rattle.call_codec.specs.Start.{MayStart, canary};
@@ -10,7 +10,7 @@ ghost use Rattle.guest_memory.specs.Written.{KeepsCode};
 ghost use Rattle.guest_process.specs.Room.{without_room, HasNumber, HasOther, HasRoomFor, TakesMemory};
 ghost use Rattle.kernel_model.specs.Threads.{first_result, makes_thread};
 ghost use Rattle.rv_interp.specs.Cache.{AreTrue};
-ghost use Rattle.run_model.specs.World.{first_guest, registers_of, turned_guest, turn_end, called_guest};
+ghost use Rattle.run_model.specs.World.{called_guest, first_guest, registers_of, turned_guest, turn_end};
 
 use crate::room::{GuestRoom, keep_threads, new_thread, undo};
 use abi_types::{Answer, Call, Pid, Regs, Tid, WakeIn};
@@ -36,7 +36,7 @@ pub struct Guest {
     pub memory: GuestMemory,
     pub regs: NumMap<Regs>,
     pub left: u64,
-    code: Cache,
+    pub(crate) code: Cache,
 }
 
 impl Model for Guest {
@@ -107,11 +107,11 @@ impl Guest {
     /// The call that a thread encodes as it stands at an ECALL.
     pub fn call(&self, alloc: Global, tid: Tid) -> Result<Call, AllocError>
         requires thread { IsSome (map.get self.now.regs tid) }
-        ensures ok { IfOk result (λ call. call ≡ args_of self.now.memory (registers_of self.now tid)) }
+        ensures ok { IfOk result (λ call. call ≡ args_of self.now.memory (registers_of self.now tid) self.now.left) }
         ensures only { OnErr result (AsksFor (λ number. is_built number && is_copied number) (registers_of self.now tid)) }
     {
         let regs = self.regs.get(u64::from(tid.0)).unwrap();
-        args(alloc, regs, &self.memory)
+        args(alloc, regs, &self.memory, self.left)
     }
 
     /// Makes the room for the answer to a call before the call is made: for its mapping, and for the registers of the thread that it may
@@ -145,7 +145,7 @@ impl Guest {
     #[tactic(auto, using(maps::specs::Maps::number_laws))]
     pub fn answer(&mut self, tid: Tid, call: &Call, answer: &Answer, room: GuestRoom)
         requires thread { IsSome (map.get (without_room room self.old).regs tid) }
-        requires encoded { call.now ≡ args_of (without_room room self.old).memory (registers_of (without_room room self.old) tid) }
+        requires encoded { Encodes (without_room room self.old).memory (registers_of (without_room room self.old) tid) call.now }
         requires room { HasRoomFor call.now room self.old }
         requires other { HasOther tid room.thread }
         requires number { makes_thread call.now answer.now ≡ true → HasNumber (first_result answer.now) room.thread }

@@ -2,7 +2,9 @@
 #![tactic(auto)]
 
 pub use guest::{FIRST, FIRST_THREAD, Guest};
-pub use room::{GuestRoom, NewThread, ends_caller, makes_thread};
+pub use room::{GuestRoom, NewThread, begins_program, ends_caller, makes_thread};
 
+mod children;
 mod guest;
+mod programs;
 mod room;

@@ -2,7 +2,7 @@
 ghost use Rattle.std.specs.Prelude.{◌≡◌, IfOk, OnErr, true};
 ghost use Rattle.guest_process.specs.Room.{without_thread, HasNumber, HasRegisters, HasThreadFor, IsCreate};
 ghost use Rattle.kernel_model.specs.OwnChanges.{is_done};
-ghost use Rattle.kernel_model.specs.Threads.{ends_caller, first_result, makes_thread};
+ghost use Rattle.kernel_model.specs.Threads.{ends_caller, ends_others, first_result, makes_thread};
 ghost use Rattle.run_model.specs.World.{called_regs, left_regs};
 
 use abi_types::{Answer, Call, Errno, Regs, Tid};
@@ -51,6 +51,16 @@ pub fn ends_caller(call: &Call, answer: &Answer) -> bool
 {
     match call {
         Call::ThreadExit { .. } => is_done(answer),
+        _ => false,
+    }
+}
+
+/// Whether the call let another program begin in the process of the thread that made it.
+pub fn begins_program(call: &Call, answer: &Answer) -> bool
+    ensures { result ≡ ends_others call.now answer.now }
+{
+    match call {
+        Call::ProcExec { .. } => is_done(answer),
         _ => false,
     }
 }

@@ -1,17 +1,20 @@
 -- What an entry leaves that the kernel makes: its world's state is the kernel's, and a call's or a wake's guest has the answer.
 --     entry_state, entry_fits, entry_dead, entry_guest      an entry of any act
---     call_leaves, call_answered, call_runs, call_waits, call_left, call_keeps, call_makes      a call
+--     call_leaves, call_answered, call_set, call_runs, call_waits, call_left, call_keeps, call_alone, call_makes      a call
+--     fork_replies, fork_lives      a proc_fork
 --     wake_leaves, wake_answered, wake_runs, wake_stays      a wake
 --     end_leaves      an end from outside
 --     recorded_next      what stands behind the lock after an entry
-use Rattle.std.proofs.Common.{◌≡◌, ◌≢◌, ℕ, ◌+◌, Bool, true, false, List, [], ◌∷◌, ◌++◌, Option, None, Some, IsSome, refl, sym, ap, subst, ◌∙◌}
+use Rattle.std.proofs.Common.{◌≡◌, ◌≢◌, ℕ, ◌+◌, Bool, true, false, List, [], ◌∷◌, ◌++◌, Option, None, Some, IsSome, inl, inr, refl, sym, ap, subst, ◌∙◌}
 use Rattle.std.specs.Option.{option_map}
 use Rattle.std.specs.Ordering.{nat_cmp}
 use Rattle.std.specs.FinMap.{FinMap, get, insert}
 use Rattle.abi_base.specs.declared.errno.Errno.TheVariants.{Nosys}
 use Rattle.abi_types.specs.declared.reply.Answer.{Answer}
 use Rattle.abi_types.specs.declared.reply.Answer.TheVariants as answer
+use Rattle.abi_types.specs.declared.reply.Reply.{Reply}
 use Rattle.abi_types.specs.declared.call.Call.{Call}
+use Rattle.abi_types.specs.declared.call.Call.TheVariants.{ProcFork}
 use Rattle.abi_types.specs.declared.constants.Constants.{Constants}
 use Rattle.abi_types.specs.declared.status.Status.TheVariants.{Live}
 use Rattle.abi_types.specs.declared.thread.Thread.{Thread}
@@ -28,20 +31,25 @@ use Rattle.kernel_model.specs.Reply.{refused}
 use Rattle.kernel_model.specs.State.{State, thread_of}
 use Rattle.kernel_model.specs.Step.{IsStep, end_state}
 use Rattle.kernel_model.specs.Valid.{IsValid}
-use Rattle.kernel_model.specs.Threads.{ends_caller, makes_thread, next_number, IsCallerAfter, LeavesThreads}
+use Rattle.kernel_model.specs.Families.ForkCalls.{child_number}
+use Rattle.kernel_model.specs.Threads.{child_told, ends_caller, ends_others, makes_thread, next_number, IsCallerAfter, LeavesThreads}
 use Rattle.kernel_model.specs.Waits.{may_wait, waiting, IsParked, MayWait, WaitsIn}
 use Rattle.kernel_model.specs.Wakes.{is_ready, HasThread, IsWake}
-use Rattle.kernel_model.proofs.Steps.{step_moves_only}
+use Rattle.kernel_model.proofs.ForkLaws.{child_is_new, fork_makes_child}
+use Rattle.kernel_model.proofs.Parking.{parks_only}
+use Rattle.kernel_model.proofs.Refusals.{error_keeps}
+use Rattle.kernel_model.proofs.Sending.{succeeds_or}
+use Rattle.kernel_model.proofs.Steps.{fork_tells_child, step_moves_only}
 use Rattle.kernel_model.proofs.Tests.{not_true}
-use Rattle.kernel_model.proofs.Threads.{keeps_others}
 use Rattle.kernel_model.proofs.Waking.{wake_keeps, wake_moves_only}
-use Rattle.maps.specs.Maps.{get-insert-same}
+use Rattle.maps.specs.Maps.{get-insert-other, get-insert-same}
 use Rattle.call_codec.specs.Arguments.{args_of}
 use Rattle.call_codec.specs.Given.{given_of}
+use Rattle.guest_process.specs.Children.{IsFork}
 use Rattle.run_model.specs.Ends.{EndsBy}
 use Rattle.run_model.specs.Legal.{Asks, FitsAct, Fits, IsRunnable}
 use Rattle.run_model.specs.Own.{is_idle, IsLiveIn}
-use Rattle.run_model.specs.World.{World, Guest, world, apply, acted, made_since, thread_at, turned, turned_guest_by, or_no_guest, guest_of, registers_of, called_state, called_guest, woken_state}
+use Rattle.run_model.specs.World.{World, Guest, world, apply, acted, made_since, thread_at, turned, turned_guest_by, or_no_guest, guest_of, registers_of, called_state, answered_guest, child_guest, with_child, woken_state}
 use Rattle.run_model.proofs.Calls.{called_is, woken_is, runs_on, ended_by}
 use Rattle.run_model.proofs.Ends.{acted_end, end_is_answered, ends_not_live}
 use Rattle.run_model.proofs.Histories.{world_more, world_constants, legal_more, apply_is, guest_turned}
@@ -118,18 +126,18 @@ module _ (launch : Launch) (log : List Entry) (p t : ℕ) (turns : List ℕ) (a 
     pub entry_dead : ¬ (get kernel.statuses p ≡ Some Live) → IsDead launch (log ++ e ∷ []) p
     entry_dead dead = entry_has (λ S. ¬ (get S.statuses p ≡ Some Live)) dead
 
-    module _ (call : Call) (answered : Answer) (guest : Guest) (guest_is : guest ≡ turned_guest_by turns (guest_of w p))
-        (set : done.guests ≡ insert (turned w p turns).guests p (called_guest (guest_of (turned w p turns) p) t call answered)) where
-      -- the process's guest has the answer
-      pub entry_guest : guest_of (world launch (log ++ e ∷ [])) p ≡ called_guest guest t call answered
+    -- the act changes the process's guest so
+    module _ (changed : Guest → Guest) (guest : Guest) (guest_is : guest ≡ turned_guest_by turns (guest_of w p))
+        (set : get done.guests p ≡ Some (changed (guest_of (turned w p turns) p))) where
+      -- it has the answer
+      pub entry_guest : guest_of (world launch (log ++ e ∷ [])) p ≡ changed guest
       entry_guest =
           ap (λ (v : World). guest_of v p) (world_more launch log e ∙ apply_is w e)
-          ∙ ap (λ (guests : FinMap nat_cmp Guest). or_no_guest (get guests p)) set
-          ∙ ap or_no_guest (get-insert-same (turned w p turns).guests p _)
-          ∙ ap (λ (g : Guest). called_guest g t call answered) (guest_turned w p turns ∙ sym guest_is)
+          ∙ ap or_no_guest set
+          ∙ ap changed (guest_turned w p turns ∙ sym guest_is)
 
       -- the thread goes on, if it runs and its process is live
-      pub entry_goes : (after : Guest) → after ≡ called_guest guest t call answered → get kernel.statuses p ≡ Some Live → IsRunnable kernel p t
+      pub entry_goes : (after : Guest) → after ≡ changed guest → get kernel.statuses p ≡ Some Live → IsRunnable kernel p t
           → GoesOn launch (log ++ e ∷ []) p t after
       entry_goes after is live runs = record {
         live = entry_has (λ S. get S.statuses p ≡ Some Live) live;
@@ -138,7 +146,7 @@ module _ (launch : Launch) (log : List Entry) (p t : ℕ) (turns : List ℕ) (a 
       }
 
       -- it waits, if it does so
-      pub entry_waits : (after : Guest) → after ≡ called_guest guest t call answered → get kernel.statuses p ≡ Some Live → (thread : Thread)
+      pub entry_waits : (after : Guest) → after ≡ changed guest → get kernel.statuses p ≡ Some Live → (thread : Thread)
           → HasThread kernel p t thread → IsParked thread → WaitsOn launch (log ++ e ∷ []) p t after
       entry_waits after is live thread there waits = record {
         live = entry_has (λ S. get S.statuses p ≡ Some Live) live;
@@ -147,7 +155,7 @@ module _ (launch : Launch) (log : List Entry) (p t : ℕ) (turns : List ℕ) (a 
       }
 
       -- it is gone, if the kernel has it no more
-      pub entry_left : (after : Guest) → after ≡ called_guest guest t call answered → get kernel.statuses p ≡ Some Live → thread_of kernel p t ≡ None
+      pub entry_left : (after : Guest) → after ≡ changed guest → get kernel.statuses p ≡ Some Live → thread_of kernel p t ≡ None
           → HasLeft launch (log ++ e ∷ []) p t after
       entry_left after is live gone = record {
         live = entry_has (λ S. get S.statuses p ≡ Some Live) live;
@@ -171,8 +179,8 @@ module _ (w : World) (p t : ℕ) (turns : List ℕ) (guest : Guest) (call : Call
   call_runnable = (a.asks some_answer).0.3.0
 
   -- the call is the one that the guest encodes
-  pub call_encoded : call ≡ args_of guest.memory (registers_of guest t)
-  call_encoded = subst (λ (g : Guest). call ≡ args_of g.memory (registers_of g t)) (sym a.guest_is) (a.asks some_answer).1
+  pub call_encoded : call ≡ args_of guest.memory (registers_of guest t) guest.left
+  call_encoded = subst (λ (g : Guest). call ≡ args_of g.memory (registers_of g t) g.left) (sym a.guest_is) (a.asks some_answer).1
 
 caller_waits : (waits : Thread) (given : Answer) (before after : Option Thread) → is_parked given ≡ true → IsCallerAfter waits given before after
     → before ≡ Some Runnable → after ≡ Some waits
@@ -188,6 +196,11 @@ still_none (Some thread) before none never = absurd (never refl)
 kept_or_none : (before after : Option Thread) → (IsSome before → after ≡ before) → (before ≡ None → IsSome after → ⊥) → after ≡ before
 kept_or_none None after there never = still_none after None refl (never refl)
 kept_or_none (Some thread) after there never = there refl
+
+-- the guest of another process than the child is what it is without the child
+child_elsewhere : (o : Option ℕ) (child : Guest) (guests : FinMap nat_cmp Guest) (p : ℕ) → o ≢ Some p → get (with_child o child guests) p ≡ get guests p
+child_elsewhere None child guests p apart = refl
+child_elsewhere (Some q) child guests p apart = get-insert-other guests q child p (λ same. apart (ap Some (sym same)))
 
 module _ (launch : Launch) (log : List Entry) (p t : ℕ) (turns : List ℕ) (call : Call) (given : Answer) (guest : Guest) (kernel : State)
     (a : AsksCall (world launch log) p t turns guest call)
@@ -208,7 +221,7 @@ module _ (launch : Launch) (log : List Entry) (p t : ℕ) (turns : List ℕ) (ca
   call_is =
       subst (λ (x : Call). IsStep launch.constants before.state who x given kernel → kernel ≡ called_state launch.constants before.state who x given)
       (sym (call_encoded before p t turns guest call a))
-      (called_is guest.memory (registers_of guest t) launch.constants before.state who given kernel) call_step
+      (called_is guest.memory (registers_of guest t) guest.left launch.constants before.state who given kernel) call_step
 
   pub call_leaves : (acted (turned before p turns) who (act.Call call given)).state ≡ kernel
   call_leaves = ap (λ (c : Constants). called_state c before.state who call given) (world_constants launch log) ∙ sym call_is
@@ -216,10 +229,26 @@ module _ (launch : Launch) (log : List Entry) (p t : ℕ) (turns : List ℕ) (ca
   pub call_answered : FitsAct launch.constants before.state who (guest_of before p) turns (act.Call call given)
   call_answered = (a.asks given, subst (IsStep launch.constants before.state who call given) call_is call_step)
 
+  -- the child, if there is one, is another process, so the process's own guest has the answer
+  module _ (valid : IsValid before.state) (live : get before.state.statuses p ≡ Some Live) where
+    call_apart : child_told call given ≢ Some p
+    call_apart is =
+        let made = sym (fork_tells_child launch.constants before.state who call given kernel call_step) ∙ is in
+        let wrong : None ≡ Some Live = sym (child_is_new launch.constants before.state who call given kernel p valid call_step made).0 ∙ live in
+        absurd (cc)
+
+    pub call_set : get (acted (turned before p turns) who (act.Call call given)).guests p
+        ≡ Some (answered_guest p (guest_of (turned before p turns) p) t call given)
+    call_set =
+        child_elsewhere (child_told call given) (child_guest (guest_of (turned before p turns) p) t)
+        (insert (turned before p turns).guests p (answered_guest p (guest_of (turned before p turns) p) t call given)) p call_apart
+        ∙ get-insert-same (turned before p turns).guests p (answered_guest p (guest_of (turned before p turns) p) t call given)
+
   -- after a reply the thread runs on, if its process is live and the call doesn't end it
   pub call_runs : is_parked given ≡ false → ends_caller call given ≡ false → get kernel.statuses p ≡ Some Live → IsRunnable kernel p t
   call_runs replies lasts live =
-      runs_on launch.constants before.state who call given kernel t call_step replies (λ _. lasts) live (call_runnable before p t turns guest call a)
+      runs_on launch.constants before.state who call given kernel t call_step replies (λ _. lasts) (λ apart. absurd (apart refl)) live
+      (call_runnable before p t turns guest call a)
 
   -- what the call leaves of the threads
   left_threads : get kernel.statuses p ≡ Some Live → LeavesThreads launch.constants before.state who call given kernel
@@ -229,13 +258,17 @@ module _ (launch : Launch) (log : List Entry) (p t : ℕ) (turns : List ℕ) (ca
   pub call_left : ends_caller call given ≡ true → get kernel.statuses p ≡ Some Live → thread_of kernel p t ≡ None
   call_left ends live = (left_threads live).ended ends
 
-  -- each other thread is what it was, and only the one comes that the call makes
-  pub call_keeps : get kernel.statuses p ≡ Some Live → (u : ℕ) → u ≢ t → (makes_thread call given ≡ true → u ≢ next_number before.state p)
+  -- where the call doesn't end the others, each is what it was, and only the one comes that the call makes
+  pub call_keeps : ends_others call given ≡ false → get kernel.statuses p ≡ Some Live → (u : ℕ) → u ≢ t → (makes_thread call given ≡ true → u ≢ next_number before.state p)
       → thread_of kernel p u ≡ thread_of before.state p u
-  call_keeps live u apart old =
+  call_keeps stay live u apart old =
       kept_or_none (thread_of before.state p u) (thread_of kernel p u)
-      (λ there. (left_threads live).others u apart there (keeps_others launch.constants before.state who call given kernel call_step))
+      (λ there. (left_threads live).others u apart there stay)
       (λ none there. let made = (left_threads live).made u none there in old made.0 made.1)
+
+  -- where it does, no other is there
+  pub call_alone : ends_others call given ≡ true → get kernel.statuses p ≡ Some Live → (u : ℕ) → u ≢ t → thread_of kernel p u ≡ None
+  call_alone ends live u apart = (left_threads live).alone ends u apart
 
   -- that one has the next number, which none had, and runs
   pub call_makes : makes_thread call given ≡ true → get kernel.statuses p ≡ Some Live
@@ -251,6 +284,40 @@ module _ (launch : Launch) (log : List Entry) (p t : ℕ) (turns : List ℕ) (ca
         (call_runnable before p t turns guest call a),
     tt,
   )
+
+-- ---- a proc_fork
+
+-- a proc_fork is answered at once
+pub fork_replies : (constants : Constants) (S : State) (one : Who) (call : Call) (given : Answer) (T : State) → IsFork call
+    → IsStep constants S one call given T → is_parked given ≡ false
+fork_replies constants S one (ProcFork left) (answer.Reply reply) T fork step = refl
+fork_replies constants S one (ProcFork left) (answer.Parked writes) T fork (inl done) =
+    absurd (not_true (parks_only constants S one (ProcFork left) (sym (ap is_parked done.0))).may)
+fork_replies constants S one (ProcFork left) (answer.Parked writes) T fork (inr lacking) = absurd (not_true (sym (ap is_parked lacking.1)))
+fork_replies constants S one _ given T fork step = absurd fork
+
+-- a live process lives on: either only the clock moves, or another process is made
+forker_lives : (constants : Constants) (S : State) (one : Who) (left : ℕ) (reply : Reply) (T : State) → IsValid S
+    → IsStep constants S one (ProcFork left) (answer.Reply reply) T → get S.statuses one.pid ≡ Some Live → get T.statuses one.pid ≡ Some Live
+forker_lives constants S one left reply T valid step live =
+    elim (succeeds_or reply.errno) [
+      | inl success ↦ (
+          let f = fork_makes_child constants S one left reply T valid step success in
+          let child = child_number one.pid f.own in
+          ap (λ m. get m one.pid) f.statuses
+          ∙ get-insert-other S.statuses child Live one.pid (λ same.
+          let wrong : None ≡ Some Live = sym (ap (get S.statuses) same ∙ f.new.status) ∙ live in
+          absurd (cc))
+          ∙ live)
+      | inr error ↦ ap (λ (U : State). get U.statuses one.pid) (error_keeps constants S one (ProcFork left) reply T step valid error) ∙ live
+    ]
+
+pub fork_lives : (constants : Constants) (S : State) (one : Who) (call : Call) (given : Answer) (T : State) → IsFork call → IsValid S
+    → IsStep constants S one call given T → get S.statuses one.pid ≡ Some Live → get T.statuses one.pid ≡ Some Live
+fork_lives constants S one (ProcFork left) (answer.Reply reply) T fork valid step live = forker_lives constants S one left reply T valid step live
+fork_lives constants S one (ProcFork left) (answer.Parked writes) T fork valid step live =
+    absurd (not_true (sym (fork_replies constants S one (ProcFork left) (answer.Parked writes) T fork step)))
+fork_lives constants S one _ given T fork valid step live = absurd fork
 
 -- ---- a wake
 

@@ -2,16 +2,22 @@
 --     kernel_early, log_short, live_there, valid_there      the bounds, who is live, and that the state is valid
 --     recorded_same      what stands there where no entry came
 --     few_there      the number of the next thread is small
---     call_runs_there, other_there, number_there, fits_call, recorded_call, acted_there      a call
+--     call_runs_there, other_there, number_there, fits_call, recorded_call, came_call, came_given, goes_call, keeps_call, acted_or_lost      a call
+--     no_child, keeps_any      a call that makes no child, and what is left of its guest
 --     waits_there, wake_can, wake_few, same_given, fits_wake, recorded_wake, woken_runs, woken_ends, woken_not, woken_none      a wake
 --     fits_end, recorded_end, stopped_done      an end from outside
 --     fits_jump, recorded_jump, appends_jump, busy_there, stalled_there      an idle jump
 use Rattle.std.proofs.Common.{◌≡◌, ◌≢◌, inl, inr, ◌+◌, ◌-◌, ◌^◌, ◌<◌, ◌≤◌, ℕ, Bool, true, false, List, [], ◌∷◌, ◌++◌, length, Option, None, Some, IsSome, IsTrue, ◌↔◌, refl, sym, ap, subst, ◌∙◌, arith}
+use Rattle.std.specs.Prelude.{Result, Ok, Err, OnOk, is_ok}
 use Rattle.std.proofs.lemmas.Bool.Decides.{eqb_tells}
 use Rattle.std.specs.FinMap.{get}
 use Rattle.abi_types.specs.declared.reply.Answer.{Answer}
 use Rattle.abi_types.specs.declared.call.Call.{Call}
-use Rattle.abi_types.specs.declared.call.Call.TheVariants.{ThreadCreate}
+use Rattle.abi_types.specs.declared.call.Call.TheVariants.{ProcExec, ProcFork, ThreadCreate, ThreadExit}
+use Rattle.abi_types.specs.declared.reply.Answer.TheVariants as answer
+use Rattle.abi_types.specs.declared.reply.WordWrites.{WordWrites}
+use Rattle.abi_base.specs.Registers.{Registers}
+use Rattle.maps.specs.Maps.{get-insert-same}
 use Rattle.abi_types.specs.declared.constants.Constants.{Constants}
 use Rattle.abi_types.specs.declared.status.Status.{Status}
 use Rattle.abi_types.specs.declared.status.Status.TheVariants.{Live}
@@ -32,7 +38,7 @@ use Rattle.kernel_model.specs.Deadlines.{idle_state}
 use Rattle.kernel_model.specs.Outcome.{is_parked}
 use Rattle.kernel_model.specs.State.{ProcessState, State, counts_in, thread_of}
 use Rattle.kernel_model.specs.Step.{IsStep, end_state}
-use Rattle.kernel_model.specs.Threads.{ends_caller, first_result, makes_thread, next_number}
+use Rattle.kernel_model.specs.Threads.{child_told, ends_caller, ends_others, first_result, makes_thread, next_number}
 use Rattle.kernel_model.specs.Valid.{IsValid}
 use Rattle.kernel_model.specs.Waits.{WaitsIn}
 use Rattle.kernel_model.specs.Wakes.{is_ready, is_ready_as, IsStalled, IsWake, MayJump}
@@ -43,7 +49,7 @@ use Rattle.guest_process.specs.declared.room.NewThread.{NewThread}
 use Rattle.run_model.specs.Ends.{Stalled}
 use Rattle.run_model.specs.Legal.{FitsAct, Fits, IsRunnable}
 use Rattle.run_model.specs.Own.{is_idle, IsLiveIn}
-use Rattle.run_model.specs.World.{World, Guest, world, apply, acted, thread_at, turned, guest_of, registers_of, called_guest}
+use Rattle.run_model.specs.World.{World, Guest, world, apply, acted, thread_at, turned, guest_of, registers_of, answered_guest, called_guest}
 use Rattle.run_model.proofs.Bounds.{early, short}
 use Rattle.run_model.proofs.Histories.{world_constants}
 use Rattle.run_model.proofs.ThreadLaws.{numbers_suffice}
@@ -51,18 +57,19 @@ use Rattle.run_model.proofs.ThreadRegisters.{parked_makes}
 use Rattle.run_model.proofs.Waited.{parked_is}
 use Rattle.run_model.proofs.WaitingRegisters.{may_can, waits_are_encoded, whole_keeps}
 use Rattle.run_model.proofs.Worlds.{world_is_valid}
-use Rattle.kernel_cell.specs.Acting.{AsksCall, AsksEnd, AsksWake, Appends, AppendsCall, AppendsWake, GoesOn, HasLeft, HasStarted, IsDead, IsActedOn, IsIdledOn, IsStoppedOn, IsWokenOn, KeepsBut, WaitsOn, act_of, acted_so, call_end, end_of, status_of}
+use Rattle.kernel_cell.specs.Acting.{AsksCall, AsksEnd, AsksWake, Appends, AppendsCall, AppendsWake, GoesOn, HasLeft, HasNoChild, HasStarted, IsAlone, IsDead, IsActedOn, IsIdledOn, IsStoppedOn, IsWokenOn, KeepsBut, KeepsGuest, WaitsOn, act_of, acted_so, call_end, end_of, status_of, unless_lost}
 use Rattle.shared_history.specs.Entries.{head_of, entry_of, answered_call, idled}
 use Rattle.shared_history.specs.Kept.{Takes}
 use Rattle.kernel_cell.specs.Recorded.{IsRecorded}
 use Rattle.shared_history.specs.declared.kept.Kept.{Kept}
 use Rattle.kernel_cell.specs.declared.results.Acted.{Acted}
 use Rattle.kernel_cell.specs.declared.results.CallEnd.{CallEnd}
+use Rattle.kernel_cell.specs.declared.results.CallEnd.TheVariants as ending
 use Rattle.kernel_cell.specs.declared.results.EndBy.{EndBy}
 use Rattle.kernel_cell.specs.declared.results.Idled.TheVariants as idle
 use Rattle.kernel_cell.specs.declared.results.Stopped.TheVariants as stopped
 use Rattle.kernel_cell.specs.declared.results.Woken.TheVariants as woken
-use Rattle.kernel_cell.proofs.EntryEffects.{recorded_next, entry_state, entry_fits, entry_dead, entry_goes, entry_keeps, entry_left, entry_starts, entry_waits, call_runnable, call_leaves, call_answered, call_runs, call_waits, call_left, call_keeps, call_makes, kept_waits, waits_may, wake_leaves, wake_answered, wake_runs, wake_stays, end_leaves, end_answered, end_dead}
+use Rattle.kernel_cell.proofs.EntryEffects.{recorded_next, entry_state, entry_fits, entry_dead, entry_goes, entry_has, entry_keeps, entry_left, entry_starts, entry_waits, call_runnable, call_leaves, call_answered, call_set, call_runs, call_waits, call_left, call_keeps, call_alone, call_makes, kept_waits, waits_may, wake_leaves, wake_answered, wake_runs, wake_stays, end_leaves, end_answered, end_dead}
 
 -- a thread of which no call is kept isn't ready
 none_ready : (constants : Constants) (S : State) (p t : ℕ) (o : Option Thread) → None ≡ kept_call o → is_ready_as constants S p t o ≡ false
@@ -82,6 +89,20 @@ makes_lasts : (call : Call) (given : Answer) → makes_thread call given ≡ tru
 makes_lasts (ThreadCreate attributes) given makes = refl
 makes_lasts _ given makes = absurd (not_true makes)
 
+-- a call that makes a thread or ends one doesn't end the others
+makes_stays : (call : Call) (given : Answer) → makes_thread call given ≡ true → ends_others call given ≡ false
+makes_stays (ThreadCreate attributes) given makes = refl
+makes_stays _ given makes = absurd (not_true makes)
+
+leaves_stays : (call : Call) (given : Answer) → ends_caller call given ≡ true → ends_others call given ≡ false
+leaves_stays (ThreadExit lock word scope) given ends = refl
+leaves_stays _ given ends = absurd (not_true ends)
+
+-- nor does one in which its thread waits
+parked_stays : (call : Call) (writes : WordWrites) → ends_others call (answer.Parked writes) ≡ false
+parked_stays (ProcExec fd bytes fds) writes = refl
+parked_stays _ writes = refl
+
 -- the number of a process's next thread is small, if it is where the process was made
 few_numbers : (o : Option ProcessState) → ((own : ProcessState) → o ≡ Some own → own.counts.threads + 1 < 2 ^ 30 - 1) → (counts_in o).threads + 1 < 2 ^ 32
 few_numbers None few = omega arith
@@ -91,6 +112,25 @@ few_numbers (Some own) few = let small = few own refl in omega (arith, small)
 other_number : (t next : ℕ) (thread : Option NewThread) → HasNumber next thread → t ≢ next → HasOther t thread
 other_number t next None number apart = tt
 other_number t next (Some new) number apart = λ same. apart (same ∙ number)
+
+-- a call that makes no child tells none
+pub no_child : (call : Call) (given : Answer) → HasNoChild call → child_told call given ≡ None
+no_child (ProcFork left) given plain = absurd plain
+no_child _ given plain = refl
+
+-- the guest may change where an entry came
+pub keeps_any : {X E : Type 0} (guest after : Guest) (begun : Result X E) (result : Acted) (lives : Bool) (end : CallEnd) (next : ℕ)
+    → result ≡ unless_lost (is_ok begun) (acted_so lives end next) → KeepsGuest guest after result
+keeps_any guest after begun result lives end next so = subst (KeepsGuest guest after) (sym so) (by (is_ok begun) lives end)
+  where
+    by : (made live : Bool) (e : CallEnd) → KeepsGuest guest after (unless_lost made (acted_so live e next))
+    by false live e = tt
+    by true false e = tt
+    by true true ending.Runs = tt
+    by true true ending.Starts = tt
+    by true true ending.Parks = tt
+    by true true ending.Leaves = tt
+    by true true ending.Begins = tt
 
 module _ (launch : Launch) (all : Bool) (log : List Entry) (before : State) (constants : Constants) (kept : Kept)
     (r : IsRecorded launch all log before constants kept) where
@@ -116,7 +156,7 @@ module _ (launch : Launch) (all : Bool) (log : List Entry) (before : State) (con
   pub dead_there : (p : ℕ) → ¬ (get before.statuses p ≡ Some Live) → IsDead launch log p
   dead_there p dead = there (λ c S. ¬ (get S.statuses p ≡ Some Live)) dead
 
-  valid_there : IsValid w.state
+  pub valid_there : IsValid w.state
   valid_there = world_is_valid launch log r.bounded.begins r.legal
 
   -- the number of a process's next thread
@@ -197,7 +237,7 @@ module _ (launch : Launch) (all : Bool) (log : List Entry) (before : State) (con
 
     module _ (given : Answer) (kernel : State) (moment : ℕ) (moment_is : moment ≡ kernel.clock)
         (step : IsStep constants before (caller before p t) call given kernel) (live : IsLiveIn w p) where
-      step_there : IsStep launch.constants w.state (caller w.state p t) call given kernel
+      pub step_there : IsStep launch.constants w.state (caller w.state p t) call given kernel
       step_there = there (λ c S. IsStep c S (caller S p t) call given kernel) step
 
       abbrev call_act : Act
@@ -217,51 +257,69 @@ module _ (launch : Launch) (all : Bool) (log : List Entry) (before : State) (con
             → IsRecorded launch all after kernel constants kept'
         recorded_call kept' took = recorded_entry p t turns call_act kernel moment moment_is leaves_call (λ _. live) answered_there after last kept' took
 
-        module _ (guest' : Guest) (is : guest' ≡ called_guest guest t call given) where
-          came_call : AppendsCall launch log p t turns call after
-          came_call = record {
-            moment = moment;
-            given = given;
-            came = appends_entry p t turns call_act kernel moment moment_is leaves_call (λ _. live) answered_there after last;
-          }
+        pub came_call : AppendsCall launch log p t turns call after
+        came_call = record {
+          moment = moment;
+          given = given;
+          came = appends_entry p t turns call_act kernel moment moment_is leaves_call (λ _. live) answered_there after last;
+        }
+
+        pub came_given : came_call.given ≡ given
+        unfolding came_call
+        came_given = refl
+
+        module _ (guest' : Guest) (is : guest' ≡ answered_guest p guest t call given) where
+          abbrev changed : Guest → Guest
+          changed g = answered_guest p g t call given
+
+          set_call : get (acted (turned w p turns) (thread_at w.state p t) call_act).guests p ≡ Some (changed (guest_of (turned w p turns) p))
+          set_call = call_set launch log p t turns call given guest kernel a step_there valid_there live
 
           -- what holds of the history after the call
           after_call : (P : List Entry → Type 0) → P (log ++ entry_of (head_of kernel.clock p t turns) call_act ∷ []) → P after
           after_call P here = entry_there p t turns call_act kernel moment moment_is leaves_call (λ _. live) answered_there after last P here
 
-          goes_call : get kernel.statuses p ≡ Some Live → is_parked given ≡ false → ends_caller call given ≡ false → GoesOn launch after p t guest'
+          pub goes_call : get kernel.statuses p ≡ Some Live → is_parked given ≡ false → ends_caller call given ≡ false → GoesOn launch after p t guest'
           goes_call on replies lasts =
               after_call (λ h. GoesOn launch h p t guest')
-              (entry_goes launch log p t turns call_act kernel leaves_call call given guest a.guest_is refl guest' is on
+              (entry_goes launch log p t turns call_act kernel leaves_call changed guest a.guest_is set_call guest' is on
               (call_runs launch log p t turns call given guest kernel a step_there replies lasts on))
 
           waits_call : get kernel.statuses p ≡ Some Live → is_parked given ≡ true → WaitsOn launch after p t guest'
           waits_call on parks =
               let thread = call_waits launch log p t turns call given guest kernel a step_there parks on in
               after_call (λ h. WaitsOn launch h p t guest')
-              (entry_waits launch log p t turns call_act kernel leaves_call call given guest a.guest_is refl guest' is on thread.0 thread.1 thread.2)
+              (entry_waits launch log p t turns call_act kernel leaves_call changed guest a.guest_is set_call guest' is on thread.0 thread.1 thread.2)
 
           leaves_caller : get kernel.statuses p ≡ Some Live → ends_caller call given ≡ true → HasLeft launch after p t guest'
           leaves_caller on ends =
               after_call (λ h. HasLeft launch h p t guest')
-              (entry_left launch log p t turns call_act kernel leaves_call call given guest a.guest_is refl guest' is on
+              (entry_left launch log p t turns call_act kernel leaves_call changed guest a.guest_is set_call guest' is on
               (call_left launch log p t turns call given guest kernel a step_there ends on))
 
-          keeps_call : get kernel.statuses p ≡ Some Live → makes_thread call given ≡ false → KeepsBut launch log after p t
-          keeps_call on makes =
+          pub keeps_call : get kernel.statuses p ≡ Some Live → makes_thread call given ≡ false → ends_others call given ≡ false → KeepsBut launch log after p t
+          keeps_call on makes stay =
               after_call (λ h. KeepsBut launch log h p t)
               (entry_keeps launch log p t turns call_act kernel leaves_call t
-              (λ u apart. call_keeps launch log p t turns call given guest kernel a step_there on u apart
+              (λ u apart. call_keeps launch log p t turns call given guest kernel a step_there stay on u apart
               (λ does. absurd (not_true (sym makes ∙ does)))))
 
+          -- where another program begins no other thread is left
+          alone_call : get kernel.statuses p ≡ Some Live → ends_others call given ≡ true → IsAlone launch after p t
+          alone_call on begins =
+              after_call (λ h. IsAlone launch h p t)
+              (λ u apart. entry_has launch log p t turns call_act kernel leaves_call (λ S. thread_of S p u ≡ None)
+              (call_alone launch log p t turns call given guest kernel a step_there begins on u apart))
+
           -- where a thread is made the one that made it is what it was too
-          keeps_maker : get kernel.statuses p ≡ Some Live → is_parked given ≡ false → ends_caller call given ≡ false → (u : ℕ)
+          keeps_maker : get kernel.statuses p ≡ Some Live → is_parked given ≡ false → makes_thread call given ≡ true → (u : ℕ)
               → u ≢ next_number w.state p → thread_of kernel p u ≡ thread_of w.state p u
-          keeps_maker on replies lasts u old =
+          keeps_maker on replies makes u old =
               elim (eqb_tells u t) [
                 | inl same ↦ subst (λ k. thread_of kernel p k ≡ thread_of w.state p k) (sym same.1)
-                    (call_runs launch log p t turns call given guest kernel a step_there replies lasts on ∙ sym (call_runnable w p t turns guest call a))
-                | inr apart ↦ call_keeps launch log p t turns call given guest kernel a step_there on u apart.1 (λ _. old)
+                    (call_runs launch log p t turns call given guest kernel a step_there replies (makes_lasts call given makes) on
+                    ∙ sym (call_runnable w p t turns guest call a))
+                | inr apart ↦ call_keeps launch log p t turns call given guest kernel a step_there (makes_stays call given makes) on u apart.1 (λ _. old)
               ]
 
           starts_call : (next : ℕ) → next ≡ next_number before p → get kernel.statuses p ≡ Some Live → is_parked given ≡ false
@@ -271,30 +329,46 @@ module _ (launch : Launch) (all : Bool) (log : List Entry) (before : State) (con
               subst (HasStarted launch log after p) (sym (numbered_there p next number))
               (after_call (λ h. HasStarted launch log h p (next_number w.state p))
               (entry_starts launch log p t turns call_act kernel leaves_call (next_number w.state p) made.0 refl made.1
-              (keeps_maker on replies (makes_lasts call given makes))))
+              (keeps_maker on replies makes)))
 
-          acted_by : (next : ℕ) → next ≡ next_number before p → (lives parks makes ends : Bool) → is_parked given ≡ parks → makes_thread call given ≡ makes
-              → ends_caller call given ≡ ends → (IsTrue lives ↔ (get kernel.statuses p ≡ Some Live))
-              → IsActedOn launch log p t turns call guest' after (acted_so lives (end_of parks makes ends) next)
-          acted_by next number false parks makes ends waits made left on = (
+          acted_by : (next : ℕ) → next ≡ next_number before p → (lives parks makes ends begins : Bool) → is_parked given ≡ parks
+              → makes_thread call given ≡ makes → ends_caller call given ≡ ends → ends_others call given ≡ begins
+              → (IsTrue lives ↔ (get kernel.statuses p ≡ Some Live))
+              → IsActedOn launch log p t turns call guest' after (acted_so lives (end_of parks makes ends begins) next)
+          acted_by next number false parks makes ends begins waits made left anew on = (
             came_call,
             after_call (λ h. IsDead launch h p) (entry_dead launch log p t turns call_act kernel leaves_call (λ alive. not_true (on.1 alive))),
           )
-          acted_by next number true true makes ends waits made left on =
-              let writes = parked_is given waits in
-              (came_call, waits_call (on.0 refl) waits, keeps_call (on.0 refl) (ap (makes_thread call) writes.1 ∙ parked_makes call writes.0))
-          acted_by next number true false true ends waits made left on =
+          acted_by next number true true makes ends begins waits made left anew on =
+              let writes = parked_is given waits in (
+                came_call,
+                waits_call (on.0 refl) waits,
+                keeps_call (on.0 refl) (ap (makes_thread call) writes.1 ∙ parked_makes call writes.0)
+                    (ap (ends_others call) writes.1 ∙ parked_stays call writes.0),
+              )
+          acted_by next number true false true ends begins waits made left anew on =
               (came_call, goes_call (on.0 refl) waits (makes_lasts call given made), starts_call next number (on.0 refl) waits made)
-          acted_by next number true false false true waits made left on =
-              (came_call, leaves_caller (on.0 refl) left, keeps_call (on.0 refl) made)
-          acted_by next number true false false false waits made left on =
-              (came_call, goes_call (on.0 refl) waits left, keeps_call (on.0 refl) made)
+          acted_by next number true false false true begins waits made left anew on =
+              (came_call, leaves_caller (on.0 refl) left, keeps_call (on.0 refl) made (leaves_stays call given left))
+          acted_by next number true false false false true waits made left anew on =
+              (came_call, goes_call (on.0 refl) waits left, alone_call (on.0 refl) anew)
+          acted_by next number true false false false false waits made left anew on =
+              (came_call, goes_call (on.0 refl) waits left, keeps_call (on.0 refl) made anew)
 
-          pub acted_there : (result : Acted) (lives : Bool) (end : CallEnd) (next : ℕ) → result ≡ acted_so lives end next → end ≡ call_end call given
+          acted_there : (result : Acted) (lives : Bool) (end : CallEnd) (next : ℕ) → result ≡ acted_so lives end next → end ≡ call_end call given
               → next ≡ next_number before p → (IsTrue lives ↔ (get kernel.statuses p ≡ Some Live)) → IsActedOn launch log p t turns call guest' after result
           acted_there result lives end next so same number on =
               subst (IsActedOn launch log p t turns call guest' after) (sym (so ∙ ap (λ x. acted_so lives x next) same))
-              (acted_by next number lives (is_parked given) (makes_thread call given) (ends_caller call given) refl refl refl on)
+              (acted_by next number lives (is_parked given) (makes_thread call given) (ends_caller call given) (ends_others call given) refl refl refl refl on)
+
+        -- where there was no memory for a program, its entry came
+        pub acted_or_lost : {X E : Type 0} (guest' : Guest) (begun : Result X E) → OnOk begun (guest' ≡ answered_guest p guest t call given)
+            → (result : Acted) (lives : Bool) (end : CallEnd) (next : ℕ) → result ≡ unless_lost (is_ok begun) (acted_so lives end next)
+            → end ≡ call_end call given → next ≡ next_number before p → (IsTrue lives ↔ (get kernel.statuses p ≡ Some Live))
+            → IsActedOn launch log p t turns call guest' after result
+        acted_or_lost guest' (Ok done) is result lives end next so same number on = acted_there guest' is result lives end next so same number on
+        acted_or_lost guest' (Err lack) is result lives end next so same number on =
+            subst (IsActedOn launch log p t turns call guest' after) (sym so) came_call
 
   -- ---- a wake
 
@@ -316,8 +390,9 @@ module _ (launch : Launch) (all : Bool) (log : List Entry) (before : State) (con
     pub wake_few : HasFewRanges (registers_of guest t) call
     wake_few =
         let encoded = waits_are_encoded launch log p t call sleeper.since waits_there.0 r.bounded.begins r.legal waits_there.1 in
-        few_ranges encoded.0 (registers_of guest t) call
-        (encoded.1 ∙ ap (args_of encoded.0) (sym (ap (λ (g : Guest). registers_of g t) a.guest_is
+        few_ranges encoded.0 (registers_of guest t)
+        encoded.1.0 call
+        (encoded.1.1 ∙ ap (λ (r : Registers). args_of encoded.0 r encoded.1.0) (sym (ap (λ (g : Guest). registers_of g t) a.guest_is
         ∙ whole_keeps w.state p (guest_of w p) turns t a.waits.thread a.whole a.waits.there a.waits.waits)))
 
     module _ (given : WakeIn) (given_is : given ≡ given_of guest.memory (registers_of guest t) call) (answered : Answer) (kernel : State) (moment : ℕ)
@@ -360,7 +435,8 @@ module _ (launch : Launch) (all : Bool) (log : List Entry) (before : State) (con
         woken_runs guest' is on = (
           appends_wake,
           entry_there p t turns wake_act kernel moment moment_is leaves_wake (λ _. live) answered_wake after last (λ h. GoesOn launch h p t guest')
-              (entry_goes launch log p t turns wake_act kernel leaves_wake call answered guest a.guest_is refl guest' is on
+              (entry_goes launch log p t turns wake_act kernel leaves_wake (λ g. called_guest g t call answered) guest a.guest_is
+              (get-insert-same (turned w p turns).guests p (called_guest (guest_of (turned w p turns) p) t call answered)) guest' is on
               (wake_runs launch log p t turns call given answered guest kernel a valid_there waits_there given_is ready_there wake_there on)),
           entry_there p t turns wake_act kernel moment moment_is leaves_wake (λ _. live) answered_wake after last (λ h. KeepsBut launch log h p t)
               (entry_keeps launch log p t turns wake_act kernel leaves_wake t

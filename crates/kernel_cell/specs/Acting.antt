@@ -1,17 +1,19 @@
 -- What the calls on the locked kernel ask of a process, and what they tell it.
 --     AsksCall, AsksWake, AsksEnd      what a thread's call asks, its wake, and an end from outside
 --     Added, Looked      what a pass tells after a call that added an entry, and after one that didn't
---     GoesOn, WaitsOn, HasLeft, HasStarted, KeepsBut, IsDead      what became of threads
---     IsActed, IsWoken, IsStopped, ..      what the calls tell by a pass
---     IsActedOn, IsWokenOn, IsStoppedOn, IsIdledOn, ..      the same of the whole history, which is behind the lock
+--     GoesOn, WaitsOn, HasLeft, HasStarted, KeepsBut, IsAlone, IsDead      what became of threads
+--     IsChild      a child that a call made
+--     IsActed, IsForked, IsWoken, IsStopped, ..      what the calls tell by a pass
+--     IsActedOn, IsForkedOn, IsWokenOn, IsStoppedOn, IsIdledOn, ..      the same of the whole history, which is behind the lock
 --     IsNextThread      the number of the process's next thread
 --     AreTimes      the moment, and until when a thread waits
 --     KeepsGuest, KeepsTurns      what is left of the guest and of its turns where no entry came
-use Rattle.std.specs.Prelude.{◌≡◌, ◌≢◌, ℕ, Bool, true, false, List, [], ◌∷◌, ◌++◌, None, Some, IsSome}
+use Rattle.std.specs.Prelude.{◌≡◌, ◌≢◌, ◌↔◌, ℕ, Bool, true, false, List, [], ◌∷◌, ◌++◌, Contains, Option, None, Some, IsSome, Result, Ok, Err, IsTrue}
 use Rattle.std.specs.FinMap.{get}
 use Rattle.abi_base.specs.declared.signal.Signal.TheVariants.{Xcpu}
 use Rattle.abi_types.specs.declared.reply.Answer.{Answer}
 use Rattle.abi_types.specs.declared.call.Call.{Call}
+use Rattle.abi_types.specs.declared.call.Call.TheVariants.{ProcFork}
 use Rattle.abi_types.specs.declared.status.Status.{Status}
 use Rattle.abi_types.specs.declared.status.Status.TheVariants.{Killed}
 use Rattle.abi_types.specs.declared.thread.Thread.{Thread}
@@ -23,7 +25,7 @@ use Rattle.run_types.specs.declared.launch.Launch.{Launch}
 use Rattle.kernel_core.specs.Waiting.{waits_until}
 use Rattle.kernel_model.specs.Outcome.{is_parked}
 use Rattle.kernel_model.specs.State.{thread_of}
-use Rattle.kernel_model.specs.Threads.{ends_caller, makes_thread, next_number}
+use Rattle.kernel_model.specs.Threads.{child_told, ends_caller, ends_others, makes_thread, next_number}
 use Rattle.kernel_model.specs.Waits.{IsParked}
 use Rattle.kernel_model.specs.Wakes.{is_ready, HasThread, MayJump}
 use Rattle.run_model.specs.Ends.{Stalled}
@@ -31,7 +33,9 @@ use Rattle.run_model.specs.Legal.{AreWhole, Asks, Fits, IsRunnable}
 use Rattle.run_model.specs.Own.{own, IsLiveIn}
 use Rattle.run_model.specs.World.{World, Guest, world, guest_of, thread_at, turned_guest_by}
 use Rattle.shared_history.specs.Entries.{head_of, entry_of, answered_call, idled}
+use Rattle.shared_history.specs.Keeper.{Keeping}
 use Rattle.shared_history.specs.Passes.{Passing, IsSeen, Later}
+use Rattle.shared_history.specs.Rule.{tail_of}
 use Rattle.kernel_cell.specs.declared.results.Acted.{Acted}
 use Rattle.kernel_cell.specs.declared.results.Acted.TheVariants as acted
 use Rattle.kernel_cell.specs.declared.results.CallEnd.{CallEnd}
@@ -40,6 +44,8 @@ use Rattle.kernel_cell.specs.declared.results.EndBy.{EndBy}
 use Rattle.kernel_cell.specs.declared.results.EndBy.TheVariants as end_by
 use Rattle.kernel_cell.specs.declared.results.Idled.{Idled}
 use Rattle.kernel_cell.specs.declared.results.Idled.TheVariants as idle
+use Rattle.kernel_cell.specs.declared.results.NotMade.{NotMade}
+use Rattle.kernel_cell.specs.declared.results.NotMade.TheVariants as not_made
 use Rattle.kernel_cell.specs.declared.results.Stopped.{Stopped}
 use Rattle.kernel_cell.specs.declared.results.Stopped.TheVariants as stopped
 use Rattle.kernel_cell.specs.declared.results.Times.{Times}
@@ -58,6 +64,11 @@ pub record AsksCall (w : World) (p t : ℕ) (turns : List ℕ) (guest : Guest) (
   pub guest_is : guest ≡ turned_guest_by turns (guest_of w p)
   pub registers : IsSome (get guest.regs t)
   pub asks : (given : Answer) → AsksFor w p t turns (act.Call call given)
+
+-- the call makes no child, whatever it is answered
+abbrev pub HasNoChild : Call → Type 0
+HasNoChild (ProcFork left) = ⊥
+HasNoChild call = Unit {0}
 
 -- the process has this thread, and it waits in a call
 pub record Waiting (w : World) (p t : ℕ) : Type 0 where
@@ -131,6 +142,10 @@ pub record HasStarted (launch : Launch) (before after : List Entry) (p u : ℕ) 
   pub runs : IsRunnable (world launch after).state p u
   pub others : KeepsBut launch before after p u
 
+-- the process has no other thread than the one with this number
+abbrev pub IsAlone : Launch → List Entry → ℕ → ℕ → Type 0
+IsAlone launch history p t = (u : ℕ) → u ≢ t → thread_of (world launch history).state p u ≡ None
+
 -- the thread takes its turns, and this is its process's guest
 pub record GoesOn (launch : Launch) (history : List Entry) (p t : ℕ) (guest : Guest) : Type 0 where
   pub live : IsLiveIn (world launch history) p
@@ -149,6 +164,14 @@ pub record HasLeft (launch : Launch) (history : List Entry) (p t : ℕ) (guest :
   pub gone : thread_of (world launch history).state p t ≡ None
   pub guest_is : guest ≡ guest_of (world launch history) p
 
+-- The child was made by the last entry of the history, by a thread with this number, which it has alone, and which takes its turns. No entry is
+-- of the child yet, and this is its guest.
+pub record IsChild (launch : Launch) (history : List Entry) (t child : ℕ) (guest : Guest) : Type 0 where
+  pub seen : IsSeen launch child history
+  pub none : own child history ≡ []
+  pub goes_on : GoesOn launch history child t guest
+  pub alone : IsAlone launch history child t
+
 abbrev pub IsDead : Launch → List Entry → ℕ → Type 0
 IsDead launch history p = ¬ IsLiveIn (world launch history) p
 
@@ -157,24 +180,32 @@ abbrev pub IsNotReady : Launch → List Entry → ℕ → ℕ → Type 0
 IsNotReady launch history p t =
     IsLiveIn (world launch history) p × (is_ready launch.constants (world launch history).state p t ≡ false)
 
--- what a call did with the thread that made it, by whether this waits, whether the call made a thread, and whether it ended this one
-abbrev pub end_of : Bool → Bool → Bool → CallEnd
-end_of true makes ends = ending.Parks
-end_of false true ends = ending.Starts
-end_of false false true = ending.Leaves
-end_of false false false = ending.Runs
+-- what a call did with the thread that made it, by whether this waits, whether the call made a thread, whether it ended this one, and whether
+-- another program began by it
+abbrev pub end_of : Bool → Bool → Bool → Bool → CallEnd
+end_of true makes ends begins = ending.Parks
+end_of false true ends begins = ending.Starts
+end_of false false true begins = ending.Leaves
+end_of false false false true = ending.Begins
+end_of false false false false = ending.Runs
 
 abbrev pub call_end : Call → Answer → CallEnd
-call_end call given = end_of (is_parked given) (makes_thread call given) (ends_caller call given)
+call_end call given = end_of (is_parked given) (makes_thread call given) (ends_caller call given) (ends_others call given)
 
 -- what a call came to, by whether its process is live afterwards, what it did with the thread that made it, and the number of the thread
 -- that it may have made
 abbrev pub acted_so : Bool → CallEnd → ℕ → Acted
 acted_so false end next = acted.Ends
+acted_so true ending.Begins next = acted.Begins
 acted_so true ending.Runs next = acted.Runs
 acted_so true ending.Starts next = acted.Starts next
 acted_so true ending.Parks next = acted.Parks
 acted_so true ending.Leaves next = acted.Leaves
+
+-- the same, by whether there was memory for the program that began by the call, if one did
+abbrev pub unless_lost : Bool → Acted → Acted
+unless_lost true result = result
+unless_lost false result = acted.Lost
 
 abbrev pub IsActed : Launch → Passing → ℕ → List ℕ → Call → Guest → Passing → Acted → Type 0
 IsActed launch v t turns call guest w acted.Runs =
@@ -185,9 +216,24 @@ IsActed launch v t turns call guest w acted.Parks =
     AddedCall launch v t turns call w × WaitsOn launch w.seen v.pid t guest × KeepsBut launch v.seen w.seen v.pid t
 IsActed launch v t turns call guest w acted.Leaves =
     AddedCall launch v t turns call w × HasLeft launch w.seen v.pid t guest × KeepsBut launch v.seen w.seen v.pid t
+IsActed launch v t turns call guest w acted.Begins =
+    AddedCall launch v t turns call w × GoesOn launch w.seen v.pid t guest × IsAlone launch w.seen v.pid t
+IsActed launch v t turns call guest w acted.Lost = AddedCall launch v t turns call w
 IsActed launch v t turns call guest w acted.Ends = AddedCall launch v t turns call w × IsDead launch w.seen v.pid
 IsActed launch v t turns call guest w acted.Gone = Looked launch v w × IsDead launch w.seen v.pid
 IsActed launch v t turns call guest w acted.NoMemory = Looked launch v w × IsLiveIn (world launch w.seen) v.pid
+
+-- A proc_fork is an entry, by which the child was made that its answer tells, or none where it tells none, and its thread goes on; or the process
+-- had ended before it; or memory ran out before it. The pass of the child has seen the history up to the entry.
+abbrev pub IsForked : Launch → Passing → ℕ → List ℕ → Call → Guest → Passing → Result (Option (Passing × Guest)) NotMade → Type 0
+IsForked launch v t turns call guest w (Ok (Some child)) =
+    (added : AddedCall launch v t turns call w) × GoesOn launch w.seen v.pid t guest × KeepsBut launch v.seen w.seen v.pid t
+    × (child.0.seen ≡ w.seen) × IsChild launch w.seen t child.0.pid child.1 × (child_told call added.given ≡ Some child.0.pid)
+IsForked launch v t turns call guest w (Ok None) =
+    (added : AddedCall launch v t turns call w) × GoesOn launch w.seen v.pid t guest × KeepsBut launch v.seen w.seen v.pid t
+    × (child_told call added.given ≡ None)
+IsForked launch v t turns call guest w (Err not_made.Gone) = Looked launch v w × IsDead launch w.seen v.pid
+IsForked launch v t turns call guest w (Err not_made.NoMemory) = Looked launch v w × IsLiveIn (world launch w.seen) v.pid
 
 abbrev pub IsWoken : Launch → Passing → ℕ → List ℕ → Guest → Passing → Woken → Type 0
 IsWoken launch v t turns guest w woken.Runs =
@@ -229,9 +275,48 @@ IsActedOn launch log p t turns call guest after acted.Parks =
     AppendsCall launch log p t turns call after × WaitsOn launch after p t guest × KeepsBut launch log after p t
 IsActedOn launch log p t turns call guest after acted.Leaves =
     AppendsCall launch log p t turns call after × HasLeft launch after p t guest × KeepsBut launch log after p t
+IsActedOn launch log p t turns call guest after acted.Begins =
+    AppendsCall launch log p t turns call after × GoesOn launch after p t guest × IsAlone launch after p t
+IsActedOn launch log p t turns call guest after acted.Lost = AppendsCall launch log p t turns call after
 IsActedOn launch log p t turns call guest after acted.Ends = AppendsCall launch log p t turns call after × IsDead launch after p
 IsActedOn launch log p t turns call guest after acted.Gone = (after ≡ log) × IsDead launch log p
 IsActedOn launch log p t turns call guest after acted.NoMemory = (after ≡ log) × IsLiveIn (world launch log) p
+
+-- the child's number stands in place of its pass
+abbrev pub IsForkedOn : Launch → List Entry → ℕ → ℕ → List ℕ → Call → Guest → List Entry → Result (Option (ℕ × Guest)) NotMade → Type 0
+IsForkedOn launch log p t turns call guest after (Ok (Some child)) =
+    (came : AppendsCall launch log p t turns call after) × GoesOn launch after p t guest × KeepsBut launch log after p t
+    × IsChild launch after t child.0 child.1 × (child_told call came.given ≡ Some child.0)
+IsForkedOn launch log p t turns call guest after (Ok None) =
+    (came : AppendsCall launch log p t turns call after) × GoesOn launch after p t guest × KeepsBut launch log after p t
+    × (child_told call came.given ≡ None)
+IsForkedOn launch log p t turns call guest after (Err not_made.Gone) = (after ≡ log) × IsDead launch log p
+IsForkedOn launch log p t turns call guest after (Err not_made.NoMemory) = (after ≡ log) × IsLiveIn (world launch log) p
+
+-- the processes whose passes the keeper holds after a proc_fork: the child too, where one was made
+abbrev pub held_after : Result (Option (ℕ × Guest)) NotMade → List ℕ → List ℕ
+held_after (Ok (Some child)) held = child.0 ∷ held
+held_after (Ok None) held = held
+held_after (Err not_made) held = held
+
+-- the child's pass and guest, where the keeper, which has seen this history, hands out the pass
+abbrev pub with_pass : List Entry → Result (Option (ℕ × Guest)) NotMade → Result (Option (Passing × Guest)) NotMade
+with_pass log (Ok (Some child)) = Ok (Some (record { pid = child.0; seen = log }, child.1))
+with_pass log (Ok None) = Ok None
+with_pass log (Err not_made) = Err not_made
+
+-- The keeper may do that: it holds the child first, and no more behind, and the child was made.
+abbrev pub MayHandOut : Launch → Keeping → Result (Option (ℕ × Guest)) NotMade → Type 0
+MayHandOut launch keeper (Ok (Some child)) =
+    (keeper.held ≡ child.0 ∷ tail_of keeper.held) × ¬ Contains (tail_of keeper.held) child.0 × IsSeen launch child.0 keeper.log
+MayHandOut launch keeper (Ok None) = Unit {0}
+MayHandOut launch keeper (Err not_made) = Unit {0}
+
+-- the processes that it holds then
+abbrev pub held_without : Result (Option (ℕ × Guest)) NotMade → List ℕ → List ℕ
+held_without (Ok (Some child)) held = tail_of held
+held_without (Ok None) held = held
+held_without (Err not_made) held = held
 
 -- the entry of the thread's wake came
 pub record AppendsWake (launch : Launch) (log : List Entry) (p t : ℕ) (turns : List ℕ) (after : List Entry) : Type 0 where
@@ -295,7 +380,8 @@ pub record IsNextThread (launch : Launch) (history : List Entry) (p next : ℕ) 
 
 -- ---- times
 
--- the moment of the history, and until when the thread waits after it
+-- the moment of the history, until when the thread waits after it, and whether its process is live
 pub record AreTimes (launch : Launch) (history : List Entry) (p t : ℕ) (times : Times) : Type 0 where
+  pub live : IsTrue times.live ↔ IsLiveIn (world launch history) p
   pub moment : times.moment ≡ (world launch history).state.clock
   pub until : times.until ≡ waits_until (thread_of (world launch history).state p t)

@@ -3,11 +3,12 @@ ghost use Rattle.std.specs.Prelude.{◌≡◌, ◌↔◌, [], IfOk, IfSome, IsNo
 ghost use Rattle.call_codec.specs.Bounded.{IsBounded};
 ghost use Rattle.run_model.specs.Own.{IsLiveIn};
 ghost use Rattle.run_model.specs.World.{world};
-ghost use Rattle.kernel_cell.specs.Acting.{AsksCall, AsksEnd, AsksWake, Looked, IsActed, IsNextThread, IsStopped, IsWoken, KeepsTurns};
+ghost use Rattle.guest_process.specs.Children.{IsFork};
+ghost use Rattle.kernel_cell.specs.Acting.{AsksCall, AsksEnd, AsksWake, HasNoChild, Looked, IsActed, IsForked, IsNextThread, IsStopped, IsWoken, KeepsTurns};
 ghost use Rattle.kernel_cell.specs.Cell.{IsBookOf};
 
 use crate::locked::Locked;
-use crate::results::{Acted, EndBy, Idled, Stopped, Times, Woken};
+use crate::results::{Acted, EndBy, Idled, NotMade, Stopped, Times, Woken};
 use abi_types::{Call, Pid, Tid, TidList};
 use atomic_table::{Seat, Table};
 use guest_process::{FIRST, Guest};
@@ -124,12 +125,34 @@ impl<J: Naming> Cell<J> {
         call: Call,
         guest: &mut Guest,
     ) -> Acted
-        requires { AsksCall (world J.launch pass.old.seen) pass.old.pid tid turns guest.old call }
+        requires asks { AsksCall (world J.launch pass.old.seen) pass.old.pid tid turns guest.old call }
+        requires plain { HasNoChild call }
         ensures { IsActed J.launch pass.old tid turns call guest.new pass.new result }
     {
         self.locked
             .lock(rt)
             .act(&self.passes, pass, alloc, tid, turns, call, guest)
+    }
+
+    /// A thread's proc_fork after these turns of its process. The guest is the process's at that call, and gets the answer. With the
+    /// child's pass comes the guest that the child begins with.
+    pub fn fork<R: Wait>(
+        &self,
+        rt: &R,
+        pass: &mut Pass<J>,
+        alloc: Global,
+        tid: Tid,
+        turns: TidList,
+        call: Call,
+        guest: &mut Guest,
+    ) -> Result<Option<(Pass<J>, Guest)>, NotMade>
+        requires asks { AsksCall (world J.launch pass.old.seen) pass.old.pid tid turns guest.old call }
+        requires fork { IsFork call }
+        ensures { IsForked J.launch pass.old tid turns call guest.new pass.new result }
+    {
+        self.locked
+            .lock(rt)
+            .fork(&self.passes, pass, alloc, tid, turns, call, guest)
     }
 
     /// The wake of a thread that waits, after these turns of its process. The guest is the process's after them, and gets the answer to

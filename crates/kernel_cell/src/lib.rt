@@ -4,7 +4,7 @@
 pub use cell::{Begun, Book, Cell};
 pub use locked::Locked;
 pub use record::Record;
-pub use results::{Acted, EndBy, Idled, Stopped, Times, Woken};
+pub use results::{Acted, EndBy, Idled, NotMade, Stopped, Times, Woken};
 pub use shared_history::{Kept, Naming, Pass, Passes, Past};
 
 mod cell;

@@ -3,11 +3,12 @@
 ghost use Rattle.std.specs.Prelude.{◌≡◌, ◌↔◌, IfSome, IsNone, IsTrue};
 ghost use Rattle.run_model.specs.Own.{IsLiveIn};
 ghost use Rattle.run_model.specs.World.{world};
+ghost use Rattle.guest_process.specs.Children.{IsFork};
 ghost use Rattle.kernel_cell.specs.Recorded.{IsRecorded};
-ghost use Rattle.kernel_cell.specs.Acting.{AreTimes, AsksCall, AsksEnd, AsksWake, Looked, IsActed, IsActedOn, IsIdledOn, IsNextThread, IsStopped, IsStoppedOn, IsWoken, IsWokenOn, KeepsGuest, KeepsTurns};
+ghost use Rattle.kernel_cell.specs.Acting.{AreTimes, AsksCall, AsksEnd, AsksWake, HasNoChild, Looked, held_without, with_pass, IsActed, IsActedOn, IsForked, IsIdledOn, IsNextThread, IsStopped, IsStoppedOn, IsWoken, IsWokenOn, KeepsGuest, KeepsTurns, MayHandOut};
 
 use crate::recorded::Recorded;
-use crate::results::{Acted, EndBy, Idled, Stopped, Times, Woken};
+use crate::results::{Acted, EndBy, Idled, NotMade, Stopped, Times, Woken};
 use abi_types::{Call, Constants, Pid, Tid, TidList};
 use guest_process::Guest;
 use kernel_core::Kernel;
@@ -31,6 +32,26 @@ impl<J: Naming> Model for Locked<J> {
     ghost view = { λ k. k.recorded.keeper.log };
 
     ghost invariant = { λ k. IsRecorded J.launch J.keeps_all k.recorded.keeper.log k.recorded.kernel k.recorded.constants k.recorded.kept };
+}
+
+// The pass and the guest of the child, if there is one, whose pass the keeper hands out.
+fn with_pass<J: Naming>(
+    keeper: &mut Keeper<J>,
+    passes: &Passes<J>,
+    forked: Result<Option<(Pid, Guest)>, NotMade>,
+) -> Result<Option<(Pass<J>, Guest)>, NotMade>
+    requires { MayHandOut J.launch keeper.old forked }
+    ensures keeper { keeper.new ≡ record { log = keeper.old.log; held = held_without forked keeper.old.held } }
+    ensures pass { result ≡ with_pass keeper.old.log forked }
+{
+    match forked {
+        Ok(Some((child, guest))) => {
+            let pass = keeper.hand_out(passes, child);
+            Ok(Some((pass, guest)))
+        }
+        Ok(None) => Ok(None),
+        Err(not_made) => Err(not_made),
+    }
 }
 
 impl<J: Naming> Locked<J> {
@@ -79,7 +100,8 @@ impl<J: Naming> Locked<J> {
         call: Call,
         guest: &mut Guest,
     ) -> Acted
-        requires { AsksCall (world J.launch pass.old.seen) pass.old.pid tid turns guest.old call }
+        requires asks { AsksCall (world J.launch pass.old.seen) pass.old.pid tid turns guest.old call }
+        requires plain { HasNoChild call }
         ensures pass { IsActed J.launch pass.old tid turns call guest.new pass.new result }
         ensures history { IsActedOn J.launch self.old pass.old.pid tid turns call guest.new self.new result }
         ensures guest { KeepsGuest guest.old guest.new result }
@@ -94,6 +116,35 @@ impl<J: Naming> Locked<J> {
             .call(passes, alloc, pid, tid, turns, call, guest);
         *pass = self.recorded.keeper.hand_out(passes, pid);
         acted
+    }
+
+    /// A thread's proc_fork after these turns of its process. The guest is the process's at that call, and gets the answer. With the
+    /// child's pass comes the guest that the child begins with.
+    pub fn fork(
+        &mut self,
+        passes: &Passes<J>,
+        pass: &mut Pass<J>,
+        alloc: Global,
+        tid: Tid,
+        turns: TidList,
+        call: Call,
+        guest: &mut Guest,
+    ) -> Result<Option<(Pass<J>, Guest)>, NotMade>
+        requires asks { AsksCall (world J.launch pass.old.seen) pass.old.pid tid turns guest.old call }
+        requires fork { IsFork call }
+        ensures pass { IsForked J.launch pass.old tid turns call guest.new pass.new result }
+        ensures seen { pass.new.seen ≡ self.new }
+    {
+        let pid = pass.pid;
+        self.recorded
+            .keeper
+            .take_in(passes, Pass::lent(pid, &mut pass.badge));
+        let forked = self
+            .recorded
+            .fork(passes, alloc, pid, tid, turns, call, guest);
+        let child = with_pass(&mut self.recorded.keeper, passes, forked);
+        *pass = self.recorded.keeper.hand_out(passes, pid);
+        child
     }
 
     /// The wake of a thread that waits, after these turns of its process. The guest is the process's after them, and gets the answer to
@@ -188,7 +239,7 @@ impl<J: Naming> Locked<J> {
         self.recorded.kernel.moment()
     }
 
-    /// The moment now, until when a thread waits, and the threads to be looked at again, which none is then.
+    /// The moment now, until when a thread waits, whether its process is live, and the threads to be looked at again, which none is then.
     pub fn times(&mut self, pid: Pid, tid: Tid) -> Times
         ensures times { AreTimes J.launch self.old pid tid result }
         ensures same { self.new ≡ self.old }
@@ -196,6 +247,7 @@ impl<J: Naming> Locked<J> {
         Times {
             moment: self.moment(),
             until: self.recorded.kernel.until(pid, tid),
+            live: self.recorded.kernel.live(pid),
             wakes: self.recorded.kernel.take_wakes(),
         }
     }

@@ -13,11 +13,24 @@ pub enum Acted {
     Parks,
     /// It is an entry, by which the thread ended. Its process lives on.
     Leaves,
+    /// It is an entry, by which another program began in the process. The thread goes on in it, and no other thread is left.
+    Begins,
+    /// It is an entry, by which another program began in the process, but memory ran out for it.
+    Lost,
     /// It is an entry, by which the thread's process ended.
     Ends,
     /// The process had ended before, and no entry was added.
     Gone,
     /// Memory ran out before the call was made, and no entry was added.
+    NoMemory,
+}
+
+/// Why a call of a thread was not made, and no entry was added.
+#[derive(Clone, Copy)]
+pub enum NotMade {
+    /// The process had ended before.
+    Gone,
+    /// Memory ran out before.
     NoMemory,
 }
 
@@ -32,6 +45,8 @@ pub enum CallEnd {
     Parks,
     /// It ended.
     Leaves,
+    /// It goes on in another program.
+    Begins,
 }
 
 /// What the wake of a thread that waited came to.
@@ -68,8 +83,11 @@ pub struct Times {
     pub moment: u64,
     /// `None` where the thread doesn't wait, and where there is no such moment.
     pub until: Option<u64>,
-    /// Those that waited on channels which have changed. Who takes them is to have them looked at, since nobody else gets them.
+    /// Those that waited on channels which have changed, and those of processes that have ended. Who takes them is to have them looked
+    /// at, since nobody else gets them.
     pub wakes: Wakes,
+    /// Whether the thread's process is live.
+    pub live: bool,
 }
 
 /// How a process is ended from outside.

@@ -323,7 +323,7 @@ module _ (chans : Channels) where
   shut_sets how (File node offset flags) = tt
   shut_sets how (Directory node flags) = tt
   shut_sets how (Terminal which flags) = tt
-  shut_sets how (Process p) = tt
+  shut_sets how (Process p object) = tt
 
   sent_sets : (bytes : List ℕ) (carried : List Descriptor) (kind : OpenKind) → SetsThere chans (send_open (seen_in chans) bytes carried (Some kind)).updates
   sent_sets bytes carried (End (Some r) (Some w) flags) = send_sets sent_reply flags bytes carried (Some w)
@@ -332,7 +332,7 @@ module _ (chans : Channels) where
   sent_sets bytes carried (File node offset flags) = tt
   sent_sets bytes carried (Directory node flags) = tt
   sent_sets bytes carried (Terminal which flags) = tt
-  sent_sets bytes carried (Process p) = tt
+  sent_sets bytes carried (Process p object) = tt
 
   pub socket_sets : (p : ℕ) (table : Table) (kind : OpenKind) (v : SocketCall) → AreOfEnds p chans (socket_outcome p table chans kind (call_of_socket v)).updates
   socket_sets p table kind (socket.SockRecv fd n room flags) =
@@ -378,7 +378,7 @@ sent_alike S bytes carried (End None writes flags) = refl
 sent_alike S bytes carried (File node offset flags) = refl
 sent_alike S bytes carried (Directory node flags) = refl
 sent_alike S bytes carried (Terminal which flags) = refl
-sent_alike S bytes carried (Process p) = refl
+sent_alike S bytes carried (Process p object) = refl
 
 received_alike : (S : State) (p : ℕ) (table : Table) (n room flags : ℕ) (kind : OpenKind)
     → receive_open p table (whole S) n room flags (Some kind) ≡ receive_open p table (seen_in S.chans) n room flags (Some kind)
@@ -388,7 +388,7 @@ received_alike S p table n room flags (End None writes mode) = refl
 received_alike S p table n room flags (File node offset mode) = refl
 received_alike S p table n room flags (Directory node mode) = refl
 received_alike S p table n room flags (Terminal which mode) = refl
-received_alike S p table n room flags (Process q) = refl
+received_alike S p table n room flags (Process q object) = refl
 
 shut_alike : (S : State) (how : ℕ) (kind : OpenKind) → shut_open (whole S) how (Some kind) ≡ shut_open (seen_in S.chans) how (Some kind)
 shut_alike S how (End (Some r) (Some w) flags) = refl
@@ -397,7 +397,7 @@ shut_alike S how (End None writes flags) = refl
 shut_alike S how (File node offset flags) = refl
 shut_alike S how (Directory node flags) = refl
 shut_alike S how (Terminal which flags) = refl
-shut_alike S how (Process p) = refl
+shut_alike S how (Process p object) = refl
 
 -- what a call on a socket does, by the open that its descriptor leads to
 module _ (constants : Constants) (S : State) (who : Who) (table : Table) (v : SocketCall) where

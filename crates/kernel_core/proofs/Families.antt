@@ -1,5 +1,5 @@
 -- What a call means, by the part of the kernel that does it.
---     change_is, state_is, file_is, offset_is, entries_is, open_is, ends_is, socket_is, exit_is, poll_is, zeros_is, answered_is, unbuilt_is,
+--     change_is, state_is, file_is, offset_is, entries_is, open_is, ends_is, socket_is, exit_is, fork_is, exec_is, raise_is, poll_is, zeros_is, answered_is, unbuilt_is,
 --     resolution_is, time_is, random_is, new_thread_is, thread_exit_is      the call of a view
 --     file_on, offset_on, entries_on      the descriptors of a view are those on whose opens its call works
 --     change_does, poll_does, zeros_does, answered_does, unbuilt_does      what such a call does
@@ -91,6 +91,18 @@ module _ (c : Call) (f : Family) (of : IsOf c f) where
   pub exit_is : (code : ℕ) → f ≡ family.Exit code → c ≡ call.ProcExit code
   unfolding IsOf
   exit_is code is = subst (IsOf c) is of
+
+  pub fork_is : (left : ℕ) → f ≡ family.Fork left → c ≡ call.ProcFork left
+  unfolding IsOf
+  fork_is left is = subst (IsOf c) is of
+
+  pub exec_is : (fd : ℕ) (fds : _) → f ≡ family.Exec fd fds → (bytes : List ℕ) × (c ≡ call.ProcExec fd bytes fds.now)
+  unfolding IsOf
+  exec_is fd fds is = subst (IsOf c) is of
+
+  pub raise_is : (signal : ℕ) → f ≡ family.Raise signal → c ≡ call.ProcRaise signal
+  unfolding IsOf
+  raise_is signal is = subst (IsOf c) is of
 
   pub zeros_is : (place : Place) → f ≡ family.Zeros place → zeros_of c ≡ Some place
   unfolding IsOf
@@ -207,9 +219,6 @@ pub unbuilt_does : (c : Call) (constants : Constants) (v : View) (who : Who) (ta
 unbuilt_does (call.CondvarSignal condvar word scope n) constants v who table is = refl
 unbuilt_does (call.FdCreate1 kind) constants v who table is = refl
 unbuilt_does (call.LockUnlock lock word scope) constants v who table is = refl
-unbuilt_does (call.ProcExec fd bytes fds) constants v who table is = refl
-unbuilt_does (call.ProcFork left) constants v who table is = refl
-unbuilt_does (call.ProcRaise signal) constants v who table is = refl
 unbuilt_does other constants v who table is = absurd (cc)
 
 -- ---- polls

@@ -97,7 +97,7 @@ there_behind S (File node offset flags) h = h
 there_behind S (Directory node flags) h = h
 there_behind S (End reads writes flags) h = tt
 there_behind S (Terminal which flags) h = h.1
-there_behind S (Process p) h = tt
+there_behind S (Process p object) h = tt
 
 -- ---- a descriptor or an open that isn't there
 

@@ -75,7 +75,7 @@ counted_most o table small =
     omega (arith, sum, size)
 
 -- so an open has far fewer holders than a count can count
-pub holders_few : (S : State) (o : ℕ) → AreSmall S.tables → KeysBelow (2 ^ 32) S.tables → holders S o < 2 ^ 62
+pub holders_few : (S : State) (o : ℕ) → AreSmall S.tables → KeysBelow (2 ^ 32) S.tables → holders S o < 2 ^ 61
 holders_few S o small below =
     let sum = total_bound (count_in o) MOST_DESCRIPTORS S.tables (λ p table there. counted_most o table (small p table there)) in
     let size = len_at_most (2 ^ 32) S.tables below in

@@ -18,3 +18,6 @@ pub mod Parks
 pub mod Waiters
 pub mod OwnCalls
 pub mod EndCalls
+pub mod ForkCalls
+pub mod ExecCalls
+pub mod Raising

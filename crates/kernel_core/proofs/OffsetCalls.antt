@@ -187,13 +187,13 @@ offset_is (call.FdRead n length) fd now S o (File node offset flags) is unlike =
 offset_is (call.FdRead n length) fd now S o (Directory node flags) is unlike = refl
 offset_is (call.FdRead n length) fd now S o (End reads writes flags) is unlike = absurd (unlike.1 reads writes flags refl)
 offset_is (call.FdRead n length) fd now S o (Terminal which flags) is unlike = absurd (unlike.0 which flags refl)
-offset_is (call.FdRead n length) fd now S o (Process p) is unlike = refl
+offset_is (call.FdRead n length) fd now S o (Process p object) is unlike = refl
 offset_is (call.FdSeek n offset whence) fd now S o kind is unlike = refl
 offset_is (call.FdWrite n bytes) fd now S o (File node offset flags) is unlike = refl
 offset_is (call.FdWrite n bytes) fd now S o (Directory node flags) is unlike = refl
 offset_is (call.FdWrite n bytes) fd now S o (End reads writes flags) is unlike = absurd (unlike.1 reads writes flags refl)
 offset_is (call.FdWrite n bytes) fd now S o (Terminal which flags) is unlike = absurd (unlike.0 which flags refl)
-offset_is (call.FdWrite n bytes) fd now S o (Process p) is unlike = refl
+offset_is (call.FdWrite n bytes) fd now S o (Process p object) is unlike = refl
 offset_is other fd now S o kind is unlike = absurd (none_is_no fd is)
 
 -- so the call comes to that on the open of such a descriptor
@@ -243,17 +243,17 @@ offset_keeps now t (call.FdRead n length) (File node offset flags) = moved_keeps
 offset_keeps now t (call.FdRead n length) (Directory node flags) = stays_keeps _ _
 offset_keeps now t (call.FdRead n length) (End reads writes flags) = stays_keeps _ _
 offset_keeps now t (call.FdRead n length) (Terminal which flags) = stays_keeps _ _
-offset_keeps now t (call.FdRead n length) (Process p) = stays_keeps _ _
+offset_keeps now t (call.FdRead n length) (Process p object) = stays_keeps _ _
 offset_keeps now t (call.FdSeek n offset whence) (File node at flags) = seek_keeps node at flags (sought t node at offset whence)
 offset_keeps now t (call.FdSeek n offset whence) (Directory node flags) = stays_keeps _ _
 offset_keeps now t (call.FdSeek n offset whence) (End reads writes flags) = stays_keeps _ _
 offset_keeps now t (call.FdSeek n offset whence) (Terminal which flags) = stays_keeps _ _
-offset_keeps now t (call.FdSeek n offset whence) (Process p) = stays_keeps _ _
+offset_keeps now t (call.FdSeek n offset whence) (Process p object) = stays_keeps _ _
 offset_keeps now t (call.FdWrite n bytes) (File node offset flags) = write_keeps t node offset flags now (write_place t node offset flags) bytes
 offset_keeps now t (call.FdWrite n bytes) (Directory node flags) = stays_keeps _ _
 offset_keeps now t (call.FdWrite n bytes) (End reads writes flags) = stays_keeps _ _
 offset_keeps now t (call.FdWrite n bytes) (Terminal which flags) = stays_keeps _ _
-offset_keeps now t (call.FdWrite n bytes) (Process p) = stays_keeps _ _
+offset_keeps now t (call.FdWrite n bytes) (Process p object) = stays_keeps _ _
 offset_keeps now t other kind = stays_keeps _ _
 
 -- the state with another file tree and another value of an open

@@ -23,7 +23,7 @@ same_node (File node offset old) flags n = refl
 same_node (Directory node old) flags n = refl
 same_node (End reads writes old) flags n = refl
 same_node (Terminal which old) flags n = refl
-same_node (Process p) flags n = refl
+same_node (Process p object) flags n = refl
 
 module _ (p : ℕ) (opens : FinMap nat_cmp OpenKind) (table : Table) (t : Tree) (n : ℕ) where
   -- the node is as much used with the opens after these updates

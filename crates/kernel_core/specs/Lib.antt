@@ -7,3 +7,5 @@ pub mod Waiting
 pub mod Threads
 pub mod Ends
 pub mod Sockets
+pub mod Forks
+pub mod Programs

@@ -27,7 +27,7 @@ fn flags_of(kind: &OpenKind) -> u16
         | OpenKind::Directory { flags, .. }
         | OpenKind::End { flags, .. }
         | OpenKind::Terminal { flags, .. } => *flags,
-        OpenKind::Process(_) => 0,
+        OpenKind::Process { .. } => 0,
     }
 }
 

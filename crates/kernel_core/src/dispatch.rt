@@ -51,6 +51,9 @@ impl Kernel {
                 self.end_process(who.pid, Status::Exit(code));
                 Ok(Answer::Reply(success(0, 0)))
             }
+            Family::Fork { left } => self.proc_fork(who, left),
+            Family::Exec { fd, fds } => self.proc_exec(constants, who, fd, fds),
+            Family::Raise { signal } => Ok(Answer::Reply(self.proc_raise(who, signal))),
             Family::Poll(subscriptions) => poll(
                 self.alloc,
                 constants,

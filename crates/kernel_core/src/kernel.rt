@@ -1,5 +1,5 @@
 //! The kernel's state, and its steps.
-ghost use Rattle.std.specs.Prelude.{◌≡◌, ◌≢◌, ◌⊎◌, ◌∷◌, ◌+◌, ◌^◌, ◌<◌, ◌≤◌, ◌↔◌, ℕ, [], Some, None, IsSome, IfOk, OnErr, IsTrue, false, true, length, option_copied, unwrap_or};
+ghost use Rattle.std.specs.Prelude.{◌≡◌, ◌≢◌, ◌⊎◌, ◌∷◌, ◌+◌, ◌^◌, ◌<◌, ◌≤◌, ◌↔◌, ℕ, [], Some, None, IsSome, IfOk, OnErr, IsTrue, IsFalse, false, true, length, option_copied, unwrap_or};
 ghost use Rattle.std.specs.FinMap as map;
 ghost use Rattle.abi_types.specs.declared.descriptor.Denial.TheVariants as denial;
 ghost use Rattle.kernel_core.specs.Kernel.{is_live, any_live};
@@ -13,7 +13,11 @@ ghost use Rattle.kernel_model.specs.Reply.{denied};
 ghost use Rattle.tree_model.specs.Grants.{MayBegin};
 ghost use Rattle.kernel_model.specs.Sight.{process_parts};
 ghost use Rattle.kernel_model.specs.Start.{start_state};
-ghost use Rattle.kernel_model.specs.State.{put_all, Table, Part, has_part, Agree, thread_of, tree_of, written_to};
+ghost use Rattle.kernel_model.specs.Threads.{child_told};
+ghost use Rattle.abi_types.specs.declared.call.Call.TheVariants as call;
+ghost use Rattle.abi_types.specs.declared.constants.Constants.{Constants};
+ghost use Rattle.abi_types.specs.declared.reply.Answer.{Answer};
+ghost use Rattle.kernel_model.specs.State.{State, put_all, Table, Part, has_part, Agree, thread_of, tree_of, written_to};
 ghost use Rattle.kernel_model.specs.Step.{failed, outside, IsStep, IsUntouched, end_unreleased, end_state};
 ghost use Rattle.kernel_model.specs.Valid.{IsValid};
 
@@ -24,7 +28,9 @@ use abi_types::{
 use channel_calls::{Channels, Wakes};
 use fd_table::FdTable;
 use file_tree::Tree;
-use kernel_parts::{ProcessState, Terminal, granted, let_go_all, release, single, streams};
+use kernel_parts::{
+    ProcessState, Terminal, granted, let_go_all, release, single, streams, wake_waiting,
+};
 use maps::NumMap;
 use object_store::Objects;
 use right_rules::refused;
@@ -99,7 +105,9 @@ impl Kernel {
     {
         let p = u64::from(pid.0);
         self.statuses.replace(p, status);
-        self.processes.get_mut(p).end();
+        let own = self.processes.get_mut(p);
+        wake_waiting(&mut self.channels, pid, own);
+        own.end();
         let_go_all(self.tables.get_mut(p), &mut self.objects);
         release(
             &mut self.objects,
@@ -156,6 +164,18 @@ impl Kernel {
     {
         let since = self.clock + STEP_TIME;
         self.run(constants, &Who { pid, tid, since }, call)
+    }
+
+    /// Whether a proc_fork of this thread, whose process has so many turns left, would make a child, unless memory ran out.
+    pub fn may_fork(&self, pid: Pid, tid: Tid, left: u64) -> bool
+        ensures { IsFalse result → (constants : Constants) (given : Answer) (after : State) → IsStep constants self.now (caller self.now pid tid) (call.ProcFork left) given after
+            → child_told (call.ProcFork left) given ≡ None }
+    {
+        let p = u64::from(pid.0);
+        let (Some(table), Some(own)) = (self.tables.get(p), self.processes.get(p)) else {
+            return false;
+        };
+        table.lowest().is_some() && own.can_fork(pid, tid, left)
     }
 
     /// Ends a live process from outside, by a trap or at the end of its turns. It takes 1000 nanoseconds.

@@ -6,7 +6,7 @@ use Rattle.abi_base.specs.declared.errno.Errno.{Errno}
 use Rattle.abi_base.specs.declared.errno.Errno.TheVariants.{Success, Nosys}
 use Rattle.abi_types.specs.declared.needed.Needed.{Needed}
 use Rattle.abi_types.specs.declared.reply.Reply.{Reply}
-use Rattle.kernel_model.specs.Meaning.{answering, unbuilt, unbuilt_listing, unbuilt_naming, unbuilt_row}
+use Rattle.kernel_model.specs.Meaning.{answering, unbuilt, unbuilt_naming, unbuilt_row}
 use Rattle.kernel_model.specs.Proper.{IsIn, IsProper, NeedsOf}
 use Rattle.kernel_model.specs.Families.DescriptorCalls.{needing}
 use Rattle.kernel_model.specs.Rows.{base_row}
@@ -38,7 +38,7 @@ replying_is_proper named need seen errors reply names sees plain listed = record
   plain = λ constants v who table. (plain, elim listed [ inl done ↦ inl done | inr here ↦ inr (refl, here) ]);
   waits = λ h. absurd (not_true h);
   lacks = λ h. absurd (not_true h);
-  others = λ constants v who table q apart. (refl, refl);
+  others = λ constants v who table q apart _. (refl, refl);
   own = λ constants S who table. inl (own_stays (get S.processes who.pid));
   allows = λ constants S who table. tt;
   carries = λ constants S who table nearly. tt;
@@ -59,9 +59,6 @@ naming_is_proper fds = unbuilt_is_proper fds [] [] tt tt
 
 pub row_is_proper : (row : Needed) → IsProper (unbuilt_row row)
 row_is_proper row = unbuilt_is_proper (row.fd ∷ []) (row ∷ []) (row.fd ∷ []) (([], [], refl), tt) ((row, ([], [], refl), refl), tt)
-
-pub listing_is_proper : (row : Needed) (fds : List ℕ) → IsProper (unbuilt_listing row fds)
-listing_is_proper row fds = unbuilt_is_proper (row.fd ∷ fds) (row ∷ []) (row.fd ∷ []) (([], fds, refl), tt) ((row, ([], [], refl), refl), tt)
 
 -- the rows' own descriptors
 fds_named : (rows : List Needed) → AreNamed (fds_of rows) rows

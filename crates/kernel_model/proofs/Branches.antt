@@ -51,7 +51,7 @@ IsSeen t u (Some (File node offset flags)) = get t.nodes node ≡ get u.nodes no
 IsSeen t u (Some (Directory node flags)) = HasSameBelow t u node
 IsSeen t u (Some (End reads writes flags)) = ⊤
 IsSeen t u (Some (Terminal which flags)) = ⊤
-IsSeen t u (Some (Process p)) = ⊤
+IsSeen t u (Some (Process p object)) = ⊤
 
 -- a value that is there to be seen
 chosen : {X : Type 0} (b : Bool) (o : Option X) → b ≡ true → o ≡ cond b o None
@@ -89,7 +89,7 @@ all_behind_is_seen S parts (Some (Directory node flags)) all =
     }
 all_behind_is_seen S parts (Some (End reads writes flags)) all = tt
 all_behind_is_seen S parts (Some (Terminal which flags)) all = tt
-all_behind_is_seen S parts (Some (Process q)) all = tt
+all_behind_is_seen S parts (Some (Process q object)) all = tt
 
 -- the parts that a call sees of a process with number p, by an open with number o
 abbrev pub seen_parts : State → ℕ → ℕ → Option OpenKind → List Part

@@ -22,6 +22,7 @@ use Rattle.kernel_model.specs.Families.DescriptorCalls.{open_part}
 use Rattle.kernel_model.specs.Families.FileMeaning.{on_open, open_of}
 use Rattle.kernel_model.specs.Families.MemoryCalls.{map_row, map_zeros, mapping}
 use Rattle.kernel_model.specs.Families.Numbers.{new_parts}
+use Rattle.kernel_model.specs.OwnChanges.{born_of, child_parts, made_parts}
 use Rattle.kernel_model.specs.Families.OpenMeaning.{OpenMeaning, by_open}
 use Rattle.kernel_model.specs.Families.StreamCalls.{reading, seeking, stream_part}
 use Rattle.kernel_model.specs.Meaning.{Meaning}
@@ -73,6 +74,8 @@ takes_none (call.MemMap place length prot flags fd offset) listed = absurd (not_
 takes_none (call.FdCreate2 kind) listed = absurd (not_true listed)
 takes_none (call.SockRecv fd length fds flags) listed = absurd (not_true listed)
 takes_none (call.SockSend fd bytes fds flags) listed = absurd (not_true listed)
+takes_none (call.ProcFork left) listed = absurd (not_true listed)
+takes_none (call.ProcExec fd bytes fds) listed = absurd (not_true listed)
 takes_none _ listed = refl
 
 pub never_lack : NeverLack
@@ -117,7 +120,7 @@ stream_left q of (Some (Directory n flags)) = refl
 stream_left q of (Some (End None writes flags)) = refl
 stream_left q (node n) (Some (End (Some c) writes flags)) = refl
 stream_left q (names n) (Some (End (Some c) writes flags)) = refl
-stream_left q of (Some (Process p)) = refl
+stream_left q of (Some (Process p object)) = refl
 
 on_open_keeps : (row : Needed) (m : OpenMeaning) → ((q : Part) → IsOfTree q → (kind : Option OpenKind) → has_part (m.touched kind) q ≡ false)
     → KeepsTree (by_open row m)
@@ -151,6 +154,11 @@ keeps_tree (call.Refused number errno) listed = nothing_touched _ refl (λ S tab
 keeps_tree (call.Unknown number) listed = absurd listed
 keeps_tree _ listed = absurd (not_true listed)
 
+child_left : (q : Part) → IsOfTree q → (child : Option ℕ) → has_part (child_parts child) q ≡ false
+child_left q of None = refl
+child_left q (node n) (Some child) = refl
+child_left q (names n) (Some child) = refl
+
 own_left : (p : ℕ) (q : Part) → IsOfTree q → has_part (process_parts p) q ≡ false
 own_left p q (node n) = refl
 own_left p q (names n) = refl
@@ -164,8 +172,11 @@ changed_left : (S : State) (who : Who) (call : Call) (q : Part) → IsOfTree q �
 changed_left S who call q of keeps None = refl
 changed_left S who call q of keeps (Some table) =
     neither (made_on S who call (Some table)) (changed S call (Some table)) q
-    (unless_left (refusal table call) (new_parts who.pid (meaning_of call).numbers (get S.processes who.pid)) q
-    (ap (λ count. has_part (new_parts who.pid count (get S.processes who.pid)) q) keeps.makes))
+    (unless_left (refusal table call) (made_parts (meaning_of call).own who.pid (meaning_of call).numbers (get S.processes who.pid)) q
+    (neither (child_parts (born_of (meaning_of call).own who.pid (get S.processes who.pid)))
+    (new_parts who.pid (meaning_of call).numbers (get S.processes who.pid)) q
+    (child_left q of (born_of (meaning_of call).own who.pid (get S.processes who.pid)))
+    (ap (λ count. has_part (new_parts who.pid count (get S.processes who.pid)) q) keeps.makes)))
     (unless_left (refusal table call) ((meaning_of call).touched S table) q (keeps.leaves S table q of))
 
 part_left : (S : State) (who : Who) (call : Call) (q : Part) → IsOfTree q → KeepsTree (meaning_of call) → has_part (touch S who call) q ≡ false

@@ -6,10 +6,12 @@ use Rattle.abi_types.specs.declared.call.Call.TheVariants as call
 use Rattle.kernel_model.specs.Calls.{meaning_of}
 use Rattle.kernel_model.specs.Proper.{IsProper}
 use Rattle.kernel_model.specs.Reply.{success}
-use Rattle.kernel_model.proofs.Answering.{answering_is_proper, listing_is_proper, naming_is_proper, needing_is_proper}
+use Rattle.kernel_model.proofs.Answering.{answering_is_proper, naming_is_proper, needing_is_proper}
 use Rattle.kernel_model.proofs.MemoryCalls.{decided_is_proper, mem_map_is_proper}
 use Rattle.kernel_model.proofs.ClockCalls.{clock_time_get_is_proper, random_get_is_proper}
-use Rattle.kernel_model.proofs.ProcessCalls.{proc_exit_is_proper}
+use Rattle.kernel_model.proofs.ExecCalls.{proc_exec_is_proper}
+use Rattle.kernel_model.proofs.ForkCalls.{proc_fork_is_proper}
+use Rattle.kernel_model.proofs.ProcessCalls.{proc_exit_is_proper, proc_raise_is_proper}
 use Rattle.kernel_model.proofs.ThreadCalls.{thread_create_is_proper, thread_exit_is_proper}
 use Rattle.kernel_model.proofs.DescriptorCalls.{fd_close_is_proper, fd_dup_is_proper, fd_replace_is_proper, fd_stat_get_is_proper, fd_stat_put_is_proper}
 use Rattle.kernel_model.proofs.FileBytes.{fd_pread_is_proper, fd_pwrite_is_proper}
@@ -61,10 +63,10 @@ proper (call.LockUnlock lock word scope) = naming_is_proper []
 proper (call.MemMap place length prot flags fd offset) = mem_map_is_proper place length prot flags fd offset
 proper (call.Memory number errno) = decided_is_proper errno
 proper (call.Poll subscriptions) = poll_is_proper subscriptions
-proper (call.ProcExec fd bytes fds) = listing_is_proper _ fds
+proper (call.ProcExec fd bytes fds) = proc_exec_is_proper fd fds
 proper (call.ProcExit code) = proc_exit_is_proper code
-proper (call.ProcFork left) = naming_is_proper []
-proper (call.ProcRaise signal) = naming_is_proper []
+proper (call.ProcFork left) = proc_fork_is_proper left
+proper (call.ProcRaise signal) = proc_raise_is_proper signal
 proper (call.RandomGet length) = random_get_is_proper length
 proper (call.SockRecv fd length fds flags) = sock_recv_is_proper fd length fds flags
 proper (call.SockSend fd bytes fds flags) = sock_send_is_proper fd bytes fds

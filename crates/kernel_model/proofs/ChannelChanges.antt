@@ -242,7 +242,7 @@ module _ (S : State) (c : ℕ) (old new : Channel) (there : get S.chans c ≡ So
   put_behind reader writer (Directory q flags) h = h
   put_behind reader writer (End reads writes flags) h = (h.0, put_reader reader reads h.1, put_writer writer writes h.2)
   put_behind reader writer (Terminal which flags) h = h
-  put_behind reader writer (Process q) h = h
+  put_behind reader writer (Process q object) h = h
 
   put_joined : IsJoined S.opens c new → IsNearlyValid S → (e : ℕ) (channel : Channel) → get (insert S.chans c new) e ≡ Some channel → IsJoined S.opens e channel
   put_joined joined v e channel at =

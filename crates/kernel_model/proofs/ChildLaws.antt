@@ -115,7 +115,7 @@ told_by d e p q i j a b may other same =
     ]
 
 -- it is not the number of process 0
-not_first : (depth p i : ℕ) → MayHaveChild depth i → child_of p depth i ≢ 0
+pub not_first : (depth p i : ℕ) → MayHaveChild depth i → child_of p depth i ≢ 0
 not_first zero p i may is = absurd (omega arith)
 not_first (suc zero) p i may is = absurd (omega arith)
 not_first (suc (suc zero)) p i may is = absurd (omega arith)
@@ -149,7 +149,7 @@ module _ (S : State) (v : IsNearlyValid S) (p i : ℕ) (own : ProcessState) (mad
   child_is_small : child_of p own.depth i < 0xffffffff
   child_is_small = small_number (suc own.depth) (child_of p own.depth i) (child_of_depth own.depth p i may (process_of_depth S v p own made).0)
 
-  child_is_unmade : IsUnmade S (child_of p own.depth i)
+  pub child_is_unmade : IsUnmade S (child_of p own.depth i)
   child_is_unmade =
       let none : get S.processes (child_of p own.depth i) ≡ None = no_process (get S.processes (child_of p own.depth i)) refl in
       let absent : is_some (get S.statuses (child_of p own.depth i)) ≡ false = sym (v.owns (child_of p own.depth i)) ∙ ap is_some none in

@@ -30,7 +30,7 @@ clock_time_get_is_proper clock = record {
   plain = λ constants v who table. (refl, inl refl);
   waits = λ h. absurd (not_true h);
   lacks = λ h. absurd (not_true h);
-  others = λ constants v who table q apart. (refl, refl);
+  others = λ constants v who table q apart _. (refl, refl);
   own = λ constants S who table. inl (own_stays (get S.processes who.pid));
   allows = λ constants S who table. tt;
   carries = λ constants S who table nearly. tt;
@@ -63,7 +63,7 @@ random_get_is_proper length = record {
       drawn_holds (IsPlain (Again ∷ [])) constants who.pid (v.process who.pid) length (refl, inr (refl, ([], [], refl))) (λ own _. (refl, inl refl));
   waits = λ h. absurd (not_true h);
   lacks = λ _. ((λ e. cc), tt);
-  others = λ constants v who table q apart.
+  others = λ constants v who table q apart _.
       drawn_holds (λ o. IsUnset o (at_proc q) × IsUnset o (at_status q)) constants who.pid (v.process who.pid) length (refl, refl)
       (λ own _. (other_table who.pid q apart, refl));
   own = λ constants S who table.

@@ -123,7 +123,7 @@ setting_is_proper named errors takes f is lacks = record {
       of_table (IsPlain errors) errors who.pid table (f who.pid table) (is who.pid table) (λ errno here. (refl, inr (refl, here))) (λ result new _. (refl, inl refl));
   waits = λ h. absurd (not_true h);
   lacks = lacks;
-  others = λ constants v who table q apart.
+  others = λ constants v who table q apart _.
       of_table (λ o. IsUnset o (at_proc q) × IsUnset o (at_status q)) errors who.pid table (f who.pid table) (is who.pid table) (λ errno _. (refl, refl))
       (λ result new _. (other_table who.pid q apart, refl));
   own = λ constants S who table.
@@ -212,7 +212,7 @@ fd_stat_get_is_proper fd = record {
   plain = λ constants v who table. stat_holds (IsPlain (Badf ∷ [])) v (get table fd) (refl, inr (refl, ([], [], refl))) (λ d kind. (refl, inl refl));
   waits = λ h. absurd (not_true h);
   lacks = λ h. absurd (not_true h);
-  others = λ constants v who table q apart. (
+  others = λ constants v who table q apart _. (
     stat_holds (λ o. IsUnset o (at_proc q)) v (get table fd) refl (λ d kind. refl),
     stat_holds (λ o. IsUnset o (at_status q)) v (get table fd) refl (λ d kind. refl),
   );
@@ -234,7 +234,7 @@ same_with_flags (End None (Some writes) flags) new = record { base = refl; inher
 same_with_flags (End (Some reads) None flags) new = record { base = refl; inheriting = refl; behind = λ S h. h; alike = λ k. (refl, refl, refl) }
 same_with_flags (End (Some reads) (Some writes) flags) new = record { base = refl; inheriting = refl; behind = λ S h. h; alike = λ k. (refl, refl, refl) }
 same_with_flags (Terminal which flags) new = record { base = refl; inheriting = refl; behind = λ S h. h; alike = λ k. (refl, refl, refl) }
-same_with_flags (Process p) new = record { base = refl; inheriting = refl; behind = λ S h. h; alike = λ k. (refl, refl, refl) }
+same_with_flags (Process p object) new = record { base = refl; inheriting = refl; behind = λ S h. h; alike = λ k. (refl, refl, refl) }
 
 -- what holds of none, of either and of both of two updates
 pub either_set : (P : List Update → Type 0) (no_first no_second : Bool) (u w : Update) → P [] → P (u ∷ []) → P (w ∷ []) → P (u ∷ w ∷ [])
@@ -319,7 +319,7 @@ fd_stat_put_is_proper fd stat flags = record {
       put_holds (IsPlain (Badf ∷ [])) v who.pid table fd stat flags (get table fd) (refl, inr (refl, ([], [], refl))) (λ d kind _ _. (refl, inl refl));
   waits = λ h. absurd (not_true h);
   lacks = λ h. absurd (not_true h);
-  others = λ constants v who table q apart. put_others v who.pid table fd stat flags (get table fd) q apart;
+  others = λ constants v who table q apart _. put_others v who.pid table fd stat flags (get table fd) q apart;
   own = λ constants S who table. inl (put_own S (whole S) who.pid table fd stat flags (get table fd));
   allows = λ constants S who table. tt;
   carries = λ constants S who table nearly.

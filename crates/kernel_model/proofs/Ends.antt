@@ -59,13 +59,13 @@ killed_more S few many more p =
     let one = any_member of_it few some in
     any_of_member of_it many one.0 (more one.0 one.1) one.2)
 
-is_of : (p : ℕ) (kind : Option OpenKind) → is_of_process p kind ≡ true → kind ≡ Some (Process p)
+is_of : (p : ℕ) (kind : Option OpenKind) → is_of_process p kind ≡ true → (object : ℕ) × (kind ≡ Some (Process p object))
 is_of p None h = absurd (not_true h)
 is_of p (Some (File node offset flags)) h = absurd (not_true h)
 is_of p (Some (Directory node flags)) h = absurd (not_true h)
 is_of p (Some (End reads writes flags)) h = absurd (not_true h)
 is_of p (Some (Terminal which flags)) h = absurd (not_true h)
-is_of p (Some (Process q)) h = ap (λ r. Some (Process r)) (eqb-true q p h)
+is_of p (Some (Process q object)) h = (object, ap (λ r. Some (Process r object)) (eqb-true q p h))
 
 is_live : (status : Option Status) → lives status ≡ true → status ≡ Some Live
 is_live None h = absurd (not_true h)
@@ -78,7 +78,7 @@ both_true true b h = (refl, h)
 both_true false b h = absurd (not_true h)
 
 pub killed_by : (S : State) (ended : List ℕ) (p : ℕ) → is_killed S ended p ≡ true
-    → (o : ℕ) × (member o ended ≡ true) × (get S.opens o ≡ Some (Process p)) × (get S.statuses p ≡ Some Live)
+    → (o : ℕ) × (member o ended ≡ true) × ((object : ℕ) × (get S.opens o ≡ Some (Process p object))) × (get S.statuses p ≡ Some Live)
 killed_by S ended p h =
     let of_it = λ (o : ℕ). is_of_process p (get S.opens o) in
     let both = both_true (list_any of_it ended) (lives (get S.statuses p)) h in
@@ -88,16 +88,18 @@ killed_by S ended p h =
 both_are : (a b : Bool) → a ≡ true → b ≡ true → (a && b) ≡ true
 both_are a b x y = λ i. x i && y i
 
-pub kills : (S : State) (ended : List ℕ) (p o : ℕ) → get S.statuses p ≡ Some Live → member o ended ≡ true → get S.opens o ≡ Some (Process p) → is_killed S ended p ≡ true
-kills S ended p o live there is =
+pub kills : (S : State) (ended : List ℕ) (p o object : ℕ) → get S.statuses p ≡ Some Live → member o ended ≡ true
+    → get S.opens o ≡ Some (Process p object) → is_killed S ended p ≡ true
+kills S ended p o object live there is =
     let of_it = λ (r : ℕ). is_of_process p (get S.opens r) in
     both_are (list_any of_it ended) (lives (get S.statuses p)) (any_of_member of_it ended o there (ap (is_of_process p) is ∙ eq-eqb p p refl)) (ap lives live)
 
 pub killed_by_last_open : (S : State) (p : ℕ)
-    → (is_killed S (ends S) p ≡ true) ↔ ((get S.statuses p ≡ Some Live) × ((o : ℕ) × (member o (ends S) ≡ true) × (get S.opens o ≡ Some (Process p))))
+    → (is_killed S (ends S) p ≡ true)
+    ↔ ((get S.statuses p ≡ Some Live) × ((o : ℕ) × (member o (ends S) ≡ true) × (object : ℕ) × (get S.opens o ≡ Some (Process p object))))
 killed_by_last_open S p = (
-  λ killed. let by = killed_by S (ends S) p killed in (by.3, (by.0, by.1, by.2)),
-  λ by. kills S (ends S) p by.1.0 by.0 by.1.1 by.1.2,
+  λ killed. let by = killed_by S (ends S) p killed in (by.3, (by.0, by.1, by.2.0, by.2.1)),
+  λ by. kills S (ends S) p by.1.0 by.1.2 by.0 by.1.1 by.1.3,
 )
 
 -- ---- which channels lose a side

@@ -62,7 +62,7 @@ write_alike bytes at now t u (Some (File node offset flags)) seen = write_bytes_
 write_alike bytes at now t u (Some (Directory node flags)) seen = refl
 write_alike bytes at now t u (Some (End reads writes flags)) seen = refl
 write_alike bytes at now t u (Some (Terminal which flags)) seen = refl
-write_alike bytes at now t u (Some (Process p)) seen = refl
+write_alike bytes at now t u (Some (Process p object)) seen = refl
 
 write_bytes_is : (t : Tree) (node offset flags now at : ℕ) (bytes : List ℕ) → IsChange t (Some (File node offset flags)) (write_bytes t node now at bytes)
 write_bytes_is t node offset flags now at [] = succeeds t (Some (File node offset flags)) 0
@@ -77,7 +77,7 @@ write_is bytes at now t (Some (File node offset flags)) = write_bytes_is t node 
 write_is bytes at now t (Some (Directory node flags)) = refuses t (Some (Directory node flags)) Badf badf_among_changes
 write_is bytes at now t (Some (End reads writes flags)) = refuses t (Some (End reads writes flags)) Badf badf_among_changes
 write_is bytes at now t (Some (Terminal which flags)) = refuses t (Some (Terminal which flags)) Badf badf_among_changes
-write_is bytes at now t (Some (Process p)) = refuses t (Some (Process p)) Badf badf_among_changes
+write_is bytes at now t (Some (Process p object)) = refuses t (Some (Process p object)) Badf badf_among_changes
 
 pub write_keeps_well : (bytes : List ℕ) (at : ℕ) → KeepsWell (changing (write_at bytes at))
 write_keeps_well bytes at = changing_keeps_well (write_at bytes at) (write_alike bytes at) (write_is bytes at)
@@ -93,7 +93,7 @@ read_alike n at t u (Some (File node offset flags)) seen = ap (λ o. replies (co
 read_alike n at t u (Some (Directory node flags)) seen = refl
 read_alike n at t u (Some (End reads writes flags)) seen = refl
 read_alike n at t u (Some (Terminal which flags)) seen = refl
-read_alike n at t u (Some (Process p)) seen = refl
+read_alike n at t u (Some (Process p object)) seen = refl
 
 read_answers : (n at : ℕ) (t : Tree) (kind : Option OpenKind) → Answers (Badf ∷ []) (read_at n at t kind)
 read_answers n at t None = answers_refused (Badf ∷ []) Badf ([], [], refl)
@@ -101,7 +101,7 @@ read_answers n at t (Some (File node offset flags)) = answers_done (Badf ∷ [])
 read_answers n at t (Some (Directory node flags)) = answers_refused (Badf ∷ []) Badf ([], [], refl)
 read_answers n at t (Some (End reads writes flags)) = answers_refused (Badf ∷ []) Badf ([], [], refl)
 read_answers n at t (Some (Terminal which flags)) = answers_refused (Badf ∷ []) Badf ([], [], refl)
-read_answers n at t (Some (Process p)) = answers_refused (Badf ∷ []) Badf ([], [], refl)
+read_answers n at t (Some (Process p object)) = answers_refused (Badf ∷ []) Badf ([], [], refl)
 
 pub read_keeps_well : (n at : ℕ) → KeepsWell (looking (read_at n at))
 read_keeps_well n at = looking_keeps_well (read_at n at) (read_alike n at) (read_answers n at)

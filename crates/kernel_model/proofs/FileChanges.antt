@@ -177,7 +177,7 @@ file_there S (Some (File node offset flags)) there = there (File node offset fla
 file_there S (Some (Directory node flags)) there = tt
 file_there S (Some (End reads writes flags)) there = tt
 file_there S (Some (Terminal which flags)) there = tt
-file_there S (Some (Process p)) there = tt
+file_there S (Some (Process p object)) there = tt
 
 -- the open's node is seen
 node_is_seen : (S : State) (kind : Option OpenKind) (q : Part) → has_part (node_part (tree_of S) kind) q ≡ true → has_part (behind S kind) q ≡ true
@@ -189,7 +189,7 @@ node_is_seen S (Some (Directory node flags)) q h =
     (node_is_part node (below (tree_of S) node) (below_self (tree_of S) node))
 node_is_seen S (Some (End reads writes flags)) q h = absurd (not_true h)
 node_is_seen S (Some (Terminal which flags)) q h = absurd (not_true h)
-node_is_seen S (Some (Process p)) q h = absurd (not_true h)
+node_is_seen S (Some (Process p object)) q h = absurd (not_true h)
 
 pub changing_keeps_well : (effect : ℕ → Tree → Option OpenKind → Outcome)
     → ((now : ℕ) (t u : Tree) (kind : Option OpenKind) → IsSeen t u kind → effect now u kind ≡ effect now t kind)
@@ -220,7 +220,7 @@ allocate_alike size now t u (Some (File node offset flags)) seen =
 allocate_alike size now t u (Some (Directory node flags)) seen = refl
 allocate_alike size now t u (Some (End reads writes flags)) seen = refl
 allocate_alike size now t u (Some (Terminal which flags)) seen = refl
-allocate_alike size now t u (Some (Process p)) seen = refl
+allocate_alike size now t u (Some (Process p object)) seen = refl
 
 allocate_is : (size now : ℕ) (t : Tree) (kind : Option OpenKind) → IsChange t kind (allocate size now t kind)
 allocate_is size now t None = refuses t None Badf badf_among_changes
@@ -230,7 +230,7 @@ allocate_is size now t (Some (File node offset flags)) =
 allocate_is size now t (Some (Directory node flags)) = refuses t (Some (Directory node flags)) Badf badf_among_changes
 allocate_is size now t (Some (End reads writes flags)) = refuses t (Some (End reads writes flags)) Badf badf_among_changes
 allocate_is size now t (Some (Terminal which flags)) = refuses t (Some (Terminal which flags)) Badf badf_among_changes
-allocate_is size now t (Some (Process p)) = refuses t (Some (Process p)) Badf badf_among_changes
+allocate_is size now t (Some (Process p object)) = refuses t (Some (Process p object)) Badf badf_among_changes
 
 pub allocate_keeps_well : (size : ℕ) → KeepsWell (changing (allocate size))
 allocate_keeps_well size = changing_keeps_well (allocate size) (allocate_alike size) (allocate_is size)
@@ -250,7 +250,7 @@ module _ (flags : ℕ) (stat : FileStat) where
       (sym (put_times_alike flags stat now t u node (seen.nodes node (below_self t node))))
   put_open_alike now t u (Some (End reads writes f)) seen = refl
   put_open_alike now t u (Some (Terminal which f)) seen = refl
-  put_open_alike now t u (Some (Process p)) seen = refl
+  put_open_alike now t u (Some (Process p object)) seen = refl
 
   put_open_is : (now : ℕ) (t : Tree) (kind : Option OpenKind) → IsChange t kind (put_open flags stat now t kind)
   put_open_is now t None = refuses t None Badf badf_among_changes
@@ -262,7 +262,7 @@ module _ (flags : ℕ) (stat : FileStat) where
       (remakes t (Some (Directory node f)) node (put_times flags stat now t node) refl (λ file. put_times_reworks flags stat now t node))
   put_open_is now t (Some (End reads writes f)) = refuses t (Some (End reads writes f)) Badf badf_among_changes
   put_open_is now t (Some (Terminal which f)) = refuses t (Some (Terminal which f)) Badf badf_among_changes
-  put_open_is now t (Some (Process p)) = refuses t (Some (Process p)) Badf badf_among_changes
+  put_open_is now t (Some (Process p object)) = refuses t (Some (Process p object)) Badf badf_among_changes
 
 pub put_open_keeps_well : (flags : ℕ) (stat : FileStat) → KeepsWell (changing (put_open flags stat))
 put_open_keeps_well flags stat = changing_keeps_well (put_open flags stat) (put_open_alike flags stat) (put_open_is flags stat)

@@ -126,7 +126,7 @@ report_open_alike t u (Some (End (Some reads) writes flags)) seen = refl
 report_open_alike t u (Some (End None (Some writes) flags)) seen = refl
 report_open_alike t u (Some (End None None flags)) seen = refl
 report_open_alike t u (Some (Terminal which flags)) seen = refl
-report_open_alike t u (Some (Process p)) seen = refl
+report_open_alike t u (Some (Process p object)) seen = refl
 
 report_open_answers : (t : Tree) (kind : Option OpenKind) → Answers (Badf ∷ []) (report_open t kind)
 report_open_answers t None = answers_refused (Badf ∷ []) Badf ([], [], refl)
@@ -136,7 +136,7 @@ report_open_answers t (Some (End (Some reads) writes flags)) = answers_done (Bad
 report_open_answers t (Some (End None (Some writes) flags)) = answers_done (Badf ∷ []) _ refl refl
 report_open_answers t (Some (End None None flags)) = answers_refused (Badf ∷ []) Badf ([], [], refl)
 report_open_answers t (Some (Terminal which flags)) = answers_done (Badf ∷ []) _ refl refl
-report_open_answers t (Some (Process p)) = answers_done (Badf ∷ []) _ refl refl
+report_open_answers t (Some (Process p object)) = answers_done (Badf ∷ []) _ refl refl
 
 pub report_open_keeps_well : KeepsWell (looking report_open)
 report_open_keeps_well = looking_keeps_well report_open report_open_alike report_open_answers
@@ -199,7 +199,7 @@ list_open_alike n position t u (Some (Directory node flags)) seen =
     ap (list_names u n position) (sym (seen.names node (below_self t node))) ∙ list_alike t u node seen n position (get t.names node) refl
 list_open_alike n position t u (Some (End reads writes flags)) seen = refl
 list_open_alike n position t u (Some (Terminal which flags)) seen = refl
-list_open_alike n position t u (Some (Process p)) seen = refl
+list_open_alike n position t u (Some (Process p object)) seen = refl
 
 list_answers : (t : Tree) (n position : ℕ) (o : Option Names) → Answers (Badf ∷ []) (list_names t n position o)
 list_answers t n position None = answers_refused (Badf ∷ []) Badf ([], [], refl)
@@ -211,7 +211,7 @@ list_open_answers n position t (Some (File node offset flags)) = answers_refused
 list_open_answers n position t (Some (Directory node flags)) = list_answers t n position (get t.names node)
 list_open_answers n position t (Some (End reads writes flags)) = answers_refused (Badf ∷ []) Badf ([], [], refl)
 list_open_answers n position t (Some (Terminal which flags)) = answers_refused (Badf ∷ []) Badf ([], [], refl)
-list_open_answers n position t (Some (Process p)) = answers_refused (Badf ∷ []) Badf ([], [], refl)
+list_open_answers n position t (Some (Process p object)) = answers_refused (Badf ∷ []) Badf ([], [], refl)
 
 pub list_keeps_well : (n cookie : ℕ) → KeepsWell (looking (list_open n cookie))
 list_keeps_well n cookie = looking_keeps_well (list_open n cookie) (list_open_alike n cookie) (list_open_answers n cookie)

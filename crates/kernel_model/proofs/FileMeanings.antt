@@ -140,7 +140,7 @@ module _ (m : FileMeaning) (well : KeepsWell m) where
     plain = λ constants v who table. well.plain (real_time constants v.clock) v.branch (open_of v (get table row.fd));
     waits = λ h. absurd (not_true h);
     lacks = well.lacks;
-    others = λ constants v who table q apart.
+    others = λ constants v who table q apart _.
         tree_unset (m.effect (real_time constants v.clock) v.branch (open_of v (get table row.fd))).updates q
         (well.tree (real_time constants v.clock) v.branch (open_of v (get table row.fd)));
     own = λ constants S who table.

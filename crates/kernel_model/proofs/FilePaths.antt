@@ -50,7 +50,7 @@ walked_reads t u mode path (Some (File node offset flags)) seen = refl
 walked_reads t u mode path (Some (Directory node flags)) seen = walk_reads t u mode path node seen
 walked_reads t u mode path (Some (End reads writes flags)) seen = refl
 walked_reads t u mode path (Some (Terminal which flags)) seen = refl
-walked_reads t u mode path (Some (Process p)) seen = refl
+walked_reads t u mode path (Some (Process p object)) seen = refl
 
 -- ---- a path ends below the directory where it begins
 
@@ -105,7 +105,7 @@ module _ (goes : Tree → ℕ → Outcome) (alike : GoesAlike goes) where
       ∙ at_walked_alike t u node (walked_in t mode path node) seen (leads_below t mode path node)
   at_walked_reads t u mode path (Some (End reads writes flags)) seen = refl
   at_walked_reads t u mode path (Some (Terminal which flags)) seen = refl
-  at_walked_reads t u mode path (Some (Process p)) seen = refl
+  at_walked_reads t u mode path (Some (Process p object)) seen = refl
 
 -- ---- the node that is found is seen
 
@@ -130,7 +130,7 @@ found_is_seen S mode path (Some (Directory node flags)) q here =
     found_is_below (below (tree_of S) node) (walked_in (tree_of S) mode path node) q (leads_below (tree_of S) mode path node) here
 found_is_seen S mode path (Some (End reads writes flags)) q here = absurd (not_true here)
 found_is_seen S mode path (Some (Terminal which flags)) q here = absurd (not_true here)
-found_is_seen S mode path (Some (Process p)) q here = absurd (not_true here)
+found_is_seen S mode path (Some (Process p object)) q here = absurd (not_true here)
 
 -- ---- what holds where a path leads
 
@@ -210,7 +210,7 @@ walked_plainly t mode path (Some (Directory node flags)) =
     unless_plainly (nat_lt longest_path (length path)) (not (is_utf8 path)) (member 0 path) (walk_of (finds t) mode node path)
 walked_plainly t mode path (Some (End reads writes flags)) = badf_among
 walked_plainly t mode path (Some (Terminal which flags)) = badf_among
-walked_plainly t mode path (Some (Process p)) = badf_among
+walked_plainly t mode path (Some (Process p object)) = badf_among
 
 -- the call answers plainly where a path leads, or is denied where that is outside
 at_end_plain : (goes : ℕ → Outcome) → ((n : ℕ) → IsPlain path_errors (goes n)) → (end : PathEnd) → IsPlain path_errors (at_end goes end)

@@ -4,6 +4,7 @@
 --     badf_is_absent      the law
 use Rattle.std.proofs.Common.{◌≡◌, ◌≢◌, ◌⊎◌, inl, inr, ℕ, ◌||◌, not, Bool, true, false, cond, List, [], ◌∷◌, Option, Some, None, is_some, refl, sym, ap, ◌∙◌}
 use Rattle.std.specs.FinMap.{get}
+use Rattle.abi_base.specs.declared.errno.Errno.{Errno}
 use Rattle.abi_base.specs.declared.errno.Errno.TheVariants.{Badf, Nomem, Notcapable}
 use Rattle.abi_types.specs.declared.call.Call.{Call}
 use Rattle.abi_types.specs.declared.call.Call.TheVariants as call
@@ -16,6 +17,8 @@ use Rattle.abi_types.specs.declared.who.Who.{Who}
 use Rattle.kernel_model.specs.CallBounds.{BadfIsAbsent, IsAbsentIn, IsBadfBefore}
 use Rattle.kernel_model.specs.Calls.{meaning_of, named, need, refusal, refusal_of}
 use Rattle.kernel_model.specs.Families.LockWords.{unlocked}
+use Rattle.kernel_model.specs.Families.DescriptorCalls.{lowest_free}
+use Rattle.kernel_model.specs.Families.ProcessCalls.{signal_of}
 use Rattle.kernel_model.specs.Families.SocketCalls.{made_of}
 use Rattle.kernel_model.specs.Laws.{HasAll}
 use Rattle.kernel_model.specs.Need.{denied_by, first_lack, some_absent}
@@ -34,7 +37,10 @@ use Rattle.kernel_model.proofs.FoundSockets.{created_found, sock_recv_found, soc
 use Rattle.kernel_model.proofs.FoundStreams.{fd_read_found, fd_seek_found, fd_write_found, mem_map_found}
 use Rattle.kernel_model.proofs.ClockCalls.{drawn_holds}
 use Rattle.kernel_model.proofs.Lacks.{all_present}
-use Rattle.kernel_model.proofs.Lists.{in_more}
+use Rattle.kernel_model.proofs.Births.{fork_errors, fork_holds}
+use Rattle.kernel_model.proofs.FoundProcesses.{proc_exec_found}
+use Rattle.kernel_model.proofs.Lists.{in_all, in_more}
+use Rattle.kernel_model.proofs.ProcessCalls.{raise_errors, raise_holds}
 use Rattle.kernel_model.proofs.Outcomes.{outcome_by_cases}
 use Rattle.kernel_model.proofs.PairCalls.{create_holds}
 use Rattle.kernel_model.proofs.Reaches.{all_met}
@@ -89,6 +95,17 @@ module _ (S : State) (nearly : IsNearlyValid S) where
   found (call.SockRecv fd length fds flags) = sock_recv_found S nearly fd length fds flags
   found (call.SockSend fd bytes fds flags) = sock_send_found S nearly fd bytes fds
   found (call.SockShutdown fd how) = sock_shutdown_found S nearly fd how
+  found (call.ProcExec fd bytes fds) = proc_exec_found S nearly fd fds
+  found (call.ProcFork left) = λ constants who table own all met.
+      fork_holds left who.pid who.tid (get S.processes who.pid) table (lowest_free table) (OnlyWhere (IsBadfBefore (call.ProcFork left)))
+      (λ errno here other. forked_found errno here) (λ fd x free there can e. cc) where
+        forked_found : (errno : Errno) → IsIn errno fork_errors → errno ≡ Badf → ⊥
+        forked_found errno here = in_all (λ x. x ≡ Badf → ⊥) errno fork_errors ((λ e. cc), ((λ e. cc), tt)) here
+  found (call.ProcRaise signal) = λ constants who table own all met.
+      raise_holds (OnlyWhere (IsBadfBefore (call.ProcRaise signal))) who.pid (get S.processes who.pid) (λ errno here. raised_found errno here) (λ e. cc)
+      (λ found e. cc) (signal_of signal) where
+        raised_found : (errno : Errno) → IsIn errno raise_errors → errno ≡ Badf → ⊥
+        raised_found errno here = in_all (λ x. x ≡ Badf → ⊥) errno raise_errors ((λ e. cc), ((λ e. cc), tt)) here
   found _ = λ constants who table own all met e. cc
 
 -- ---- refusals

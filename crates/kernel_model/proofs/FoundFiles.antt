@@ -165,7 +165,7 @@ module _ (S : State) (nearly : IsNearlyValid S) where
       by_kind S (λ k. OnlyWhere ⊥ (report_open (tree_of S) (Some k)))
       (λ node offset flags file. report_found node (get S.nodes node) (file_there (get S.nodes node) file))
       (λ node flags directory. report_found node (get S.nodes node) (directory_there (get S.nodes node) directory))
-      (λ reads writes flags behind. end_found (tree_of S) reads writes flags behind.0) (λ which flags stream. λ e. cc) (λ p. λ e. cc) kind g.behind)
+      (λ reads writes flags behind. end_found (tree_of S) reads writes flags behind.0) (λ which flags stream. λ e. cc) (λ p object. λ e. cc) kind g.behind)
 
   pub file_readdir_found : (fd n cookie : ℕ) → NeverBadf ⊥ S (file_readdir fd n cookie)
   file_readdir_found fd n cookie =
@@ -267,7 +267,7 @@ module _ (S : State) (nearly : IsNearlyValid S) (fd : ℕ) (stat : FileStat) (fl
       let none = nothing_asked (bit_and flags 16 == 0) (bit_and flags 15 == 0)
       (λ size. no_stream which 20 refl refl (rights 20 (omega arith) size)) (λ time. no_stream which 21 refl refl (rights 21 (omega arith) time)) in
       nothing_put flags (eqb-true _ _ none.0) (eqb-true _ _ none.1))
-      (λ p rights _.
+      (λ p object rights _.
       let none = nothing_asked (bit_and flags 16 == 0) (bit_and flags 15 == 0)
       (λ size. zero_or_one (bit_at (rights_of type.Process) 20) refl (rights 20 (omega arith) size))
       (λ time. zero_or_one (bit_at (rights_of type.Process) 21) refl (rights 21 (omega arith) time)) in

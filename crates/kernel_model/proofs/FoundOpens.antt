@@ -97,7 +97,7 @@ fits_small (End (Some reads) None flags) = omega arith
 fits_small (End (Some reads) (Some writes) flags) = omega arith
 fits_small (Terminal which flags) =
     elim (which == 0) as (λ b. cond b (stream_rights 0) (stream_rights 1) < 2 ^ 64) [ true ↦ omega arith | false ↦ omega arith ]
-fits_small (Process p) = omega arith
+fits_small (Process p object) = omega arith
 
 -- a right of which nothing is lacking is held
 pub lacks_none : (asked held k : ℕ) → held < 2 ^ 64 → k < 64 → minus_of asked held ≡ 0 → Has asked k → Has held k
@@ -147,13 +147,13 @@ module _ {S : State} {row : Needed} {kind : OpenKind} (g : IsGranted S row kind)
 pub by_kind : (S : State) (P : OpenKind → Type 0) → ((node offset flags : ℕ) → is_file (tree_of S) node ≡ true → P (File node offset flags))
     → ((node flags : ℕ) → is_directory (tree_of S) node ≡ true → P (Directory node flags))
     → ((reads writes : Option ℕ) (flags : ℕ) → HasBehind S (End reads writes flags) → P (End reads writes flags))
-    → ((which flags : ℕ) → IsSome (get S.terms which) → P (Terminal which flags)) → ((p : ℕ) → P (Process p)) → (kind : OpenKind)
+    → ((which flags : ℕ) → IsSome (get S.terms which) → P (Terminal which flags)) → ((p object : ℕ) → P (Process p object)) → (kind : OpenKind)
     → HasBehind S kind → P kind
 by_kind S P file directory end stream process (File node offset flags) behind = file node offset flags behind
 by_kind S P file directory end stream process (Directory node flags) behind = directory node flags behind
 by_kind S P file directory end stream process (End reads writes flags) behind = end reads writes flags behind
 by_kind S P file directory end stream process (Terminal which flags) behind = stream which flags behind.0
-by_kind S P file directory end stream process (Process p) behind = process p
+by_kind S P file directory end stream process (Process p object) behind = process p object
 
 -- no standard stream has the right
 pub no_stream : (which k : ℕ) → bit_at (stream_rights 0) k ≡ 0 → bit_at (stream_rights 1) k ≡ 0 → Has (stream_rights which) k → ⊥
@@ -192,7 +192,7 @@ module _ (S : State) (P : OpenKind → Type 0) (k : ℕ) where
       by_kind S (λ kind. Has (fits kind) k → P kind) (λ node offset flags there _. file node offset flags there)
       (λ node flags _ has. absurd (zero_or_one (bit_at (rights_of type.Directory) k) of.1 has))
       (λ reads writes flags _ has. absurd (no_end reads writes k of.0.1 of.0.2 of.0.4 has))
-      (λ which flags _ has. absurd (no_stream which k of.0.1 of.0.2 has)) (λ p has. absurd (zero_or_one (bit_at (rights_of type.Process) k) of.0.3 has))
+      (λ which flags _ has. absurd (no_stream which k of.0.1 of.0.2 has)) (λ p object has. absurd (zero_or_one (bit_at (rights_of type.Process) k) of.0.3 has))
 
   -- and one with a right of directories alone is a directory
   directory_alone : IsOfDirectories k → ((node flags : ℕ) → is_directory (tree_of S) node ≡ true → P (Directory node flags))
@@ -202,7 +202,7 @@ module _ (S : State) (P : OpenKind → Type 0) (k : ℕ) where
       (λ node offset flags _ has. absurd (zero_or_one (bit_at (rights_of type.File) k) of.1 has))
       (λ node flags there _. directory node flags there) (λ reads writes flags _ has. absurd (no_end reads writes k of.0.1 of.0.2 of.0.4 has))
       (λ which flags _ has. absurd (no_stream which k of.0.1 of.0.2 has))
-      (λ p has. absurd (zero_or_one (bit_at (rights_of type.Process) k) of.0.3 has))
+      (λ p object has. absurd (zero_or_one (bit_at (rights_of type.Process) k) of.0.3 has))
 
   module _ (row : Needed) (alone : row.instead.0 ≡ 0) (needs : Has row.base.0 k) where
     -- the open of a descriptor, where a right of files alone is needed of it

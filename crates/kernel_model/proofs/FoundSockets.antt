@@ -57,7 +57,7 @@ module _ (S : State) (nearly : IsNearlyValid S) where
       subst (λ x. OnlyWhere ⊥ (receive_from p table n room flags (is_nonblocking mode) r x)) (sym has.1)
       (received_found (must_wait_by flags n has.0) (is_nonblocking mode) (peeks flags) p table room r (pull n has.0))
   receive_open_found p table n room flags (Terminal which mode) behind = λ e. cc
-  receive_open_found p table n room flags (Process q) behind = λ e. cc
+  receive_open_found p table n room flags (Process q object) behind = λ e. cc
 
   send_open_found : (bytes : List ℕ) (carried : List Descriptor) (kind : OpenKind) → HasBehind S kind
       → OnlyWhere ⊥ (send_open (whole (tick S)) bytes carried (Some kind))
@@ -68,7 +68,7 @@ module _ (S : State) (nearly : IsNearlyValid S) where
   send_open_found bytes carried (End (Some r) (Some w) mode) behind =
       send_found sent_reply (λ count. (refl, refl)) S mode bytes carried (Some w) behind.2 refl
   send_open_found bytes carried (Terminal which mode) behind = λ e. cc
-  send_open_found bytes carried (Process q) behind = λ e. cc
+  send_open_found bytes carried (Process q object) behind = λ e. cc
 
   shut_open_found : (how : ℕ) (kind : OpenKind) → OnlyWhere ⊥ (shut_open (whole (tick S)) how (Some kind))
   shut_open_found how (File node offset mode) = λ e. cc
@@ -77,7 +77,7 @@ module _ (S : State) (nearly : IsNearlyValid S) where
   shut_open_found how (End (Some r) None mode) = λ e. cc
   shut_open_found how (End (Some r) (Some w) mode) = λ e. cc
   shut_open_found how (Terminal which mode) = λ e. cc
-  shut_open_found how (Process q) = λ e. cc
+  shut_open_found how (Process q object) = λ e. cc
 
   -- what is done with the open of a descriptor that is there
   at_found : (effect : ℕ → Option OpenKind → Outcome) → ((o : ℕ) (kind : OpenKind) → HasBehind S kind → OnlyWhere ⊥ (effect o (Some kind))) → (p fd : ℕ)

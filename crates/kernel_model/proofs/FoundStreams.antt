@@ -113,7 +113,7 @@ module _ (S : State) (nearly : IsNearlyValid S) where
       (λ reads writes flags behind right.
       send_found written_reply (λ count. (refl, refl)) S flags bytes [] writes behind.2 (writes_one reads writes behind.0 right))
       (λ which flags stream right. write_term_found bytes which (get S.terms which) stream)
-      (λ p right. absurd (zero_or_one (bit_at (rights_of type.Process) 6) refl right)) kind g.behind
+      (λ p object right. absurd (zero_or_one (bit_at (rights_of type.Process) 6) refl right)) kind g.behind
       (granted_base g 6 (omega arith) refl refl))
 
   pub fd_read_found : (fd n : ℕ) → NeverBadf ⊥ S (fd_read fd n)
@@ -125,7 +125,7 @@ module _ (S : State) (nearly : IsNearlyValid S) where
       (λ node flags directory right. absurd (zero_or_one (bit_at (rights_of type.Directory) 1) refl right))
       (λ reads writes flags behind right. read_end_found S n flags reads behind.1 (reads_one reads writes right))
       (λ which flags stream right. read_term_found n which (get S.terms which) stream)
-      (λ p right. absurd (zero_or_one (bit_at (rights_of type.Process) 1) refl right)) kind g.behind
+      (λ p object right. absurd (zero_or_one (bit_at (rights_of type.Process) 1) refl right)) kind g.behind
       (granted_base g 1 (omega arith) refl refl))
 
   -- who seeks has FD_SEEK, or FD_TELL where that will do

@@ -45,7 +45,7 @@ HasBelow t (Some (File node offset flags)) d = ⊥
 HasBelow t (Some (Directory node flags)) d = member d (below t node) ≡ true
 HasBelow t (Some (End reads writes flags)) d = ⊥
 HasBelow t (Some (Terminal which flags)) d = ⊥
-HasBelow t (Some (Process p)) d = ⊥
+HasBelow t (Some (Process p object)) d = ⊥
 
 pub below_is_seen : (S : State) (kind : Option OpenKind) (d : ℕ) → HasBelow (tree_of S) kind d
     → (has_part (behind S kind) (at_node d) ≡ true) × (has_part (behind S kind) (at_names d) ≡ true)
@@ -99,7 +99,7 @@ walks_below t mode path (Some (Directory node flags)) =
     walk_is_below t node flags (walked t mode path (Some (Directory node flags))) (leads_below t mode path node)
 walks_below t mode path (Some (End reads writes flags)) = tt
 walks_below t mode path (Some (Terminal which flags)) = tt
-walks_below t mode path (Some (Process p)) = tt
+walks_below t mode path (Some (Process p object)) = tt
 
 -- ---- the last name
 

@@ -42,6 +42,10 @@ pub mod FileCalls
 pub mod ProcessCalls
 pub mod ThreadCalls
 pub mod ClockCalls
+pub mod Births
+pub mod NewProcesses
+pub mod ForkCalls
+pub mod ExecCalls
 pub mod Deadlines
 pub mod WaitCalls
 pub mod NewOpens
@@ -63,6 +67,7 @@ pub mod SendCounts
 pub mod Threads
 pub mod Steps
 pub mod ThreadLaws
+pub mod ForkLaws
 pub mod Decisions
 pub mod Lacks
 pub mod Refusals
@@ -84,5 +89,6 @@ pub mod FoundNames
 pub mod FoundFiles
 pub mod FoundStreams
 pub mod FoundSockets
+pub mod FoundProcesses
 pub mod Found
 pub mod CallBounds

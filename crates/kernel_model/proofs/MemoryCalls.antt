@@ -42,7 +42,7 @@ map_alike place length offset t u (Some (File node at flags)) seen =
 map_alike place length offset t u (Some (Directory node flags)) seen = refl
 map_alike place length offset t u (Some (End reads writes flags)) seen = refl
 map_alike place length offset t u (Some (Terminal which flags)) seen = refl
-map_alike place length offset t u (Some (Process p)) seen = refl
+map_alike place length offset t u (Some (Process p object)) seen = refl
 
 abbrev map_errors : Place → List Errno
 map_errors place = Badf ∷ place_errors place
@@ -57,7 +57,7 @@ map_answers place length offset t (Some (File node at flags)) = placed_answers p
 map_answers place length offset t (Some (Directory node flags)) = answers_refused (map_errors place) Badf ([], _, refl)
 map_answers place length offset t (Some (End reads writes flags)) = answers_refused (map_errors place) Badf ([], _, refl)
 map_answers place length offset t (Some (Terminal which flags)) = answers_refused (map_errors place) Badf ([], _, refl)
-map_answers place length offset t (Some (Process p)) = answers_refused (map_errors place) Badf ([], _, refl)
+map_answers place length offset t (Some (Process p object)) = answers_refused (map_errors place) Badf ([], _, refl)
 
 -- memory may run out where the mapping has a place, and its one error is then another
 map_lacks : (place : Place) → has_place place ≡ true → AllByRecursion (λ errno. errno ≢ Nomem) (map_errors place)

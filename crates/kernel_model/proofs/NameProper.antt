@@ -280,7 +280,7 @@ module _ (m : NameMeaning) (well : NamesWell m) where
         (well.plain (real_time constants v.clock) new v.branch here None);
     waits = λ h. absurd (not_true h);
     lacks = λ _. well.lacks;
-    others = λ constants v who table q apart. outcome_others who.pid m.new_nodes (v.process who.pid) _ q apart;
+    others = λ constants v who table q apart _. outcome_others who.pid m.new_nodes (v.process who.pid) _ q apart;
     own = λ constants S who table. inl (outcome_own S who.pid m.new_nodes (comes_to (real_time constants S.clock) S who.pid (get table row.fd) None));
     allows = λ constants S who table. tt;
     carries = λ constants S who table nearly.
@@ -329,7 +329,7 @@ module _ (m : NameMeaning) (well : NamesWell m) where
         (well.plain (real_time constants v.clock) new v.branch here there);
     waits = λ h. absurd (not_true h);
     lacks = λ _. well.lacks;
-    others = λ constants v who table q apart. outcome_others who.pid m.new_nodes (v.process who.pid) _ q apart;
+    others = λ constants v who table q apart _. outcome_others who.pid m.new_nodes (v.process who.pid) _ q apart;
     own = λ constants S who table.
         inl (outcome_own S who.pid m.new_nodes (comes_to (real_time constants S.clock) S who.pid (get table first.fd) (get table second.fd)));
     allows = λ constants S who table. tt;

@@ -181,7 +181,7 @@ module _ (m : OpenMeaning) (well : OpensWell m) where
       keeps = (well.sees.waits may).keeps;
     };
     lacks = well.sees.lacks;
-    others = λ constants v who table q other.
+    others = λ constants v who table q other _.
         apart_unset (at_descriptor (m.effect (real_time constants v.clock) v) v (get table row.fd)).updates q
         (apart_descriptor (real_time constants v.clock) v (get table row.fd));
     own = λ constants S who table.

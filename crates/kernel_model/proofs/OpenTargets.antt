@@ -64,6 +64,11 @@ use Rattle.kernel_model.proofs.FileMeanings.{IsOfTree}
 use Rattle.kernel_model.proofs.NameProper.{change_holds}
 use Rattle.kernel_model.proofs.ObjectNumbers.{fewer_fit, next_is_absent}
 use Rattle.kernel_model.proofs.Outcomes.{outcome_holds}
+use Rattle.kernel_model.specs.Families.ForkCalls.{child_kind, child_open, listed}
+use Rattle.kernel_model.specs.Families.ProcessCalls.{signal_of}
+use Rattle.kernel_model.proofs.Births.{fork_holds}
+use Rattle.kernel_model.proofs.ExecCalls.{exec_at_holds}
+use Rattle.kernel_model.proofs.ProcessCalls.{raise_holds}
 use Rattle.kernel_model.proofs.PairCalls.{absent, create_holds, number}
 use Rattle.kernel_model.proofs.SocketCalls.{receive_holds}
 use Rattle.kernel_model.proofs.ThreadCalls.{left_holds, made_holds}
@@ -81,14 +86,14 @@ of_same_itself (File node offset flags) = refl
 of_same_itself (Directory node flags) = refl
 of_same_itself (End reads writes flags) = (refl, refl)
 of_same_itself (Terminal which flags) = refl
-of_same_itself (Process p) = refl
+of_same_itself (Process p object) = (refl, refl)
 
 of_same_with_flags : (kind : OpenKind) (new : ℕ) → IsOfSame kind (with_flags kind new)
 of_same_with_flags (File node offset flags) new = refl
 of_same_with_flags (Directory node flags) new = refl
 of_same_with_flags (End reads writes flags) new = (refl, refl)
 of_same_with_flags (Terminal which flags) new = refl
-of_same_with_flags (Process p) new = refl
+of_same_with_flags (Process p object) new = (refl, refl)
 
 -- what is of the same as one of the same is so itself
 pub of_same_through : (a b c : OpenKind) → IsOfSame a b → IsOfSame b c → IsOfSame a c
@@ -98,7 +103,8 @@ of_same_through (End reads writes flags) (End other_reads other_writes other_fla
     subst (λ (r : Option ℕ). IsOfSame (End r writes flags) c) (sym h.0)
     (subst (λ (w : Option ℕ). IsOfSame (End other_reads w flags) c) (sym h.1) i)
 of_same_through (Terminal which flags) (Terminal other other_flags) c h i = subst (λ (k : ℕ). IsOfSame (Terminal k flags) c) (sym h) i
-of_same_through (Process p) (Process q) c h i = subst (λ (k : ℕ). IsOfSame (Process k) c) (sym h) i
+of_same_through (Process p object) (Process q other) c h i =
+    subst (λ (k : ℕ). IsOfSame (Process k object) c) (sym h.0) (subst (λ (m : ℕ). IsOfSame (Process q m) c) (sym h.1) i)
 of_same_through a b c h i = absurd h
 
 pub opens_stay_here : (S : State) → OpensStay S S
@@ -277,7 +283,7 @@ send_open_keeps S v bytes carried (Some (End None writes flags)) = tt
 send_open_keeps S v bytes carried (Some (End (Some r) None flags)) = tt
 send_open_keeps S v bytes carried (Some (End (Some r) (Some w) flags)) = send_keeps S sent_reply v flags bytes carried (Some w)
 send_open_keeps S v bytes carried (Some (Terminal which flags)) = tt
-send_open_keeps S v bytes carried (Some (Process p)) = tt
+send_open_keeps S v bytes carried (Some (Process p object)) = tt
 
 send_at_keeps : (S : State) (v : View) (bytes : List ℕ) (carried : List Descriptor) (d : Option Descriptor)
     → AllKeep S (at_descriptor (λ o. send_open v bytes carried) v d).updates
@@ -324,7 +330,7 @@ shut_open_keeps how now S v o (Some (End (Some r) None flags)) there = tt
 shut_open_keeps how now S v o (Some (End (Some r) (Some w) flags)) there =
     shut_keeps S (not (bit_and how 1 == 0)) r (v.channel r) (not (bit_and how 2 == 0)) w (v.channel w)
 shut_open_keeps how now S v o (Some (Terminal which flags)) there = tt
-shut_open_keeps how now S v o (Some (Process p)) there = tt
+shut_open_keeps how now S v o (Some (Process p object)) there = tt
 
 -- two ends that are made weren't there
 pair_keeps : (S : State) (p : ℕ) (own : ProcessState) → get S.processes p ≡ Some own → IsNearlyValid S → (table : Table) (first second : ℕ) (made : Pair)
@@ -354,7 +360,7 @@ write_keeps bytes now S v o (Some (File node offset flags)) there =
     write_from_keeps S v.branch o node offset flags now (write_place v.branch node offset flags) bytes there
 write_keeps bytes now S v o (Some (Directory node flags)) there = tt
 write_keeps bytes now S v o (Some (End reads writes flags)) there = send_keeps S written_reply v flags bytes [] writes
-write_keeps bytes now S v o (Some (Process p)) there = tt
+write_keeps bytes now S v o (Some (Process p object)) there = tt
 
 read_term_keeps : (S : State) (n which : ℕ) (stream : Option Stream) → AllKeep S (read_term n which stream).updates
 read_term_keeps S n which None = tt
@@ -366,7 +372,7 @@ read_keeps n now S v o (Some (Terminal which flags)) there = read_term_keeps S n
 read_keeps n now S v o (Some (File node offset flags)) there = (moved_keeps S o (File node offset flags) (File node _ flags) there refl, tt)
 read_keeps n now S v o (Some (Directory node flags)) there = tt
 read_keeps n now S v o (Some (End reads writes flags)) there = read_end_keeps S v n flags reads
-read_keeps n now S v o (Some (Process p)) there = tt
+read_keeps n now S v o (Some (Process p object)) there = tt
 
 seek_to_keeps : (S : State) (o node offset flags : ℕ) (place : Option ℕ) → get S.opens o ≡ Some (File node offset flags)
     → AllKeep S (with_offset o (seek_to node flags place)).updates
@@ -380,7 +386,7 @@ seek_keeps bits whence now S v o (Some (File node offset flags)) there =
     seek_to_keeps S o node offset flags (sought v.branch node offset bits whence) there
 seek_keeps bits whence now S v o (Some (Directory node flags)) there = tt
 seek_keeps bits whence now S v o (Some (End reads writes flags)) there = tt
-seek_keeps bits whence now S v o (Some (Process p)) there = tt
+seek_keeps bits whence now S v o (Some (Process p object)) there = tt
 
 -- ---- calls on descriptors themselves
 
@@ -423,6 +429,12 @@ put_keeps : (S : State) (p : ℕ) (table : Table) (fd : ℕ) (stat : FdStat) (fl
     → AllKeep S (stat_put (whole S) p table fd stat flags d).updates
 put_keeps S p table fd stat flags None = tt
 put_keeps S p table fd stat flags (Some d) = set_stat_keeps S p table fd stat flags d (get S.opens d.id) refl
+
+-- the open of a child that is made wasn't there
+child_keeps : (S : State) (p : ℕ) (own : ProcessState) → get S.processes p ≡ Some own → IsNearlyValid S → can_number p 2 (Some own) ≡ true
+    → (kind : OpenKind) → IsKeeping S (set_open (child_open p own) kind)
+child_keeps S p own there v can kind before is =
+    absurd (none_is_no before (sym (absent S p own there v 1 can 2 (omega arith) (omega arith)).0 ∙ is))
 
 -- ---- all of them
 
@@ -467,10 +479,16 @@ keeps (call.MemMap place length prot flags fd offset) constants S who table near
 keeps (call.Memory number errno) constants S who table nearly = tt
 keeps (call.Poll subscriptions) constants S who table nearly =
     poll_holds (λ (o : Outcome). AllKeep S o.updates) tt (λ userdata. tt) tt subscriptions constants (whole S) who table
-keeps (call.ProcExec fd bytes fds) constants S who table nearly = tt
+keeps (call.ProcExec fd bytes fds) constants S who table nearly =
+    exec_at_holds constants.key who.pid who.tid (listed table fds) (whole S) (λ (o : Outcome). AllKeep S o.updates) (λ errno here other. tt) (get table fd)
+    (λ x node own is program there. (tt, (tt, tt)))
 keeps (call.ProcExit code) constants S who table nearly = (tt, (tt, (tt, tt)))
-keeps (call.ProcFork left) constants S who table nearly = tt
-keeps (call.ProcRaise signal) constants S who table nearly = tt
+keeps (call.ProcFork left) constants S who table nearly =
+    fork_holds left who.pid who.tid (get S.processes who.pid) table (lowest_free table) (λ (o : Outcome). AllKeep S o.updates) (λ errno here other. tt)
+    (λ fd own free there can.
+    (tt, (tt, (tt, (tt, (child_keeps S who.pid own there nearly can.number (child_kind who.pid own), (tt, tt)))))))
+keeps (call.ProcRaise signal) constants S who table nearly =
+    raise_holds (λ (o : Outcome). AllKeep S o.updates) who.pid (get S.processes who.pid) (λ errno here. tt) tt (λ found. (tt, (tt, (tt, tt)))) (signal_of signal)
 keeps (call.RandomGet length) constants S who table nearly =
     drawn_holds (λ (o : Outcome). AllKeep S o.updates) constants who.pid (get S.processes who.pid) length tt (λ own _. (tt, tt))
 keeps (call.SockRecv fd length fds flags) constants S who table nearly = receive_at_keeps S who.pid table length fds flags (whole S) (get table fd)

@@ -129,7 +129,7 @@ module _ (oflags flags : ℕ) (path : List ℕ) (now new : ℕ) (t u : Tree) whe
       (sym (walk_reads t u mode path node seen)) (ends_alike node (walked_in t mode path node) seen (leads_below t mode path node))
   opens_alike mode (Some (End reads writes f)) seen = refl
   opens_alike mode (Some (Terminal which f)) seen = refl
-  opens_alike mode (Some (Process p)) seen = refl
+  opens_alike mode (Some (Process p object)) seen = refl
 
 -- ---- what it may come to
 

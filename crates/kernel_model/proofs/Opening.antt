@@ -313,7 +313,7 @@ there_behind S u (File n offset flags) h = h
 there_behind S u (Directory n flags) h = h
 there_behind S u (End reads writes flags) h = absurd h
 there_behind S u (Terminal which flags) h = absurd h
-there_behind S u (Process q) h = absurd h
+there_behind S u (Process q object) h = absurd h
 
 -- it is of no process and no end of a channel
 there_sole : (opens : FinMap nat_cmp OpenKind) (o : ℕ) (u : Tree) (kind : OpenKind) → IsThere u kind → AreSole opens → AreSole (insert opens o kind)
@@ -321,7 +321,7 @@ there_sole opens o u (File n offset flags) h sole = more_sole opens o (File n of
 there_sole opens o u (Directory n flags) h sole = more_sole opens o (Directory n flags) (λ k. (refl, refl, refl)) sole
 there_sole opens o u (End reads writes flags) h sole = absurd h
 there_sole opens o u (Terminal which flags) h sole = absurd h
-there_sole opens o u (Process q) h sole = absurd h
+there_sole opens o u (Process q object) h sole = absurd h
 
 -- a process has opened this, and changed the tree for it
 module _ (S : State) (p : ℕ) (table : Table) (has_table : get S.tables p ≡ Some table) (v : IsNearlyValid S) (kind : OpenKind) (c : Change) (new_nodes : ℕ)
@@ -432,7 +432,7 @@ file_open_is_proper lookup path oflags stat = record {
       (walked_plainly v.branch (open_mode oflags lookup.flags) path (open_of v (get table lookup.fd)));
   waits = λ h. absurd (not_true h);
   lacks = λ _. open_errors_lack;
-  others = λ constants v who table q apart.
+  others = λ constants v who table q apart _.
       open_others who.pid (v.process who.pid) table stat (lowest_free table)
       (opened_from who.pid stat oflags (open_mode oflags lookup.flags) path (real_time constants v.clock) (v.process who.pid) v.branch
       (open_of v (get table lookup.fd)))

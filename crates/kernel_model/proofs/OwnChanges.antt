@@ -174,7 +174,7 @@ module _ (S : State) (p : ℕ) (own new : ProcessState) (there : get S.processes
   behind_process (Directory q flags) h = h
   behind_process (End reads writes flags) h = h
   behind_process (Terminal which flags) h = h
-  behind_process (Process q) h = h
+  behind_process (Process q object) h = h
 
   pub set_process_nearly_valid : IsNearlyValid S → IsNearlyValid (put_one (set_process p new) S)
   set_process_nearly_valid v = record {

@@ -203,7 +203,7 @@ no_writer_yet S v c none r writes = found (get S.opens r) refl writes where
   found o at is = not_true is
 
 -- a test that no open passes, but perhaps one more
-beside_first : (opens : FinMap nat_cmp OpenKind) (o : ℕ) (new : OpenKind) (test : Option OpenKind → Bool) → ((r : ℕ) → test (get opens r) ≡ true → ⊥)
+pub beside_first : (opens : FinMap nat_cmp OpenKind) (o : ℕ) (new : OpenKind) (test : Option OpenKind → Bool) → ((r : ℕ) → test (get opens r) ≡ true → ⊥)
     → (test (Some new) ≡ true → ⊥) → (r : ℕ) → test (get (insert opens o new) r) ≡ true → ⊥
 beside_first opens o new test none fails r passes =
     elim (eqb_tells r o) [
@@ -211,7 +211,7 @@ beside_first opens o new test none fails r passes =
       | inr other ↦ none r (ap test (sym (get-insert-other opens o new r other.1)) ∙ passes)
     ]
 
-false_never : {X : Type 0} → false ≡ true → X
+pub false_never : {X : Type 0} → false ≡ true → X
 false_never e = absurd (not_true e)
 
 -- a new channel with an end that reads it and one that writes it is joined
@@ -221,7 +221,7 @@ new_joined opens c r w reads writes = record { sound = sound_new; carried = tt; 
 -- with two descriptors more of ends that are there
 module _ (T : State) (valid : IsNearlyValid T) (p : ℕ) (table : Table) (has_table : get T.tables p ≡ Some table) (first second : ℕ) (d e : Descriptor)
     (d_named : IsNamed (get T.opens d.id) d) (e_named : IsNamed (get T.opens e.id) e) where
-  inserted_named : (m : Table) (number : ℕ) (x : Descriptor) → IsNamed (get T.opens x.id) x
+  pub inserted_named : (m : Table) (number : ℕ) (x : Descriptor) → IsNamed (get T.opens x.id) x
       → ((n : ℕ) (y : Descriptor) → get m n ≡ Some y → IsNamed (get T.opens y.id) y) → (n : ℕ) (y : Descriptor) → get (insert m number x) n ≡ Some y
       → IsNamed (get T.opens y.id) y
   inserted_named m number x named others n y at =
@@ -240,7 +240,7 @@ module _ (T : State) (valid : IsNearlyValid T) (p : ℕ) (table : Table) (has_ta
       (inserted_named table first d d_named (λ n y at. valid.named p n table y has_table at))) valid
 
 -- a process with a thread lives
-thread_lives : (S : State) (p t : ℕ) (own : ProcessState) → get S.processes p ≡ Some own → is_some (get own.threads t) ≡ true → IsNearlyValid S → (status : Status)
+pub thread_lives : (S : State) (p t : ℕ) (own : ProcessState) → get S.processes p ≡ Some own → is_some (get own.threads t) ≡ true → IsNearlyValid S → (status : Status)
     → get S.statuses p ≡ Some status → status ≢ Live → ⊥
 thread_lives S p t own there some v status is ends =
     let bare : own.threads ≡ empty =
@@ -498,7 +498,7 @@ fd_create2_is_proper kind = record {
       (λ m is first second own one two there some can. (refl, inl refl));
   waits = λ h. absurd (not_true h);
   lacks = λ _. ((λ e. cc), ((λ e. cc), ((λ e. cc), tt)));
-  others = λ constants v who table q apart.
+  others = λ constants v who table q apart _.
       create_holds who.pid who.tid (v.process who.pid) table (λ x. IsUnset x (at_proc q) × IsUnset x (at_status q)) (λ errno here. (refl, refl)) (made_of kind)
       (λ m is first second own one two there some can.
       subst (λ o. IsUnset (creates m who.pid o table first second) (at_proc q) × IsUnset (creates m who.pid o table first second) (at_status q)) (sym there)

@@ -108,7 +108,7 @@ module _ (S : State) (v : IsNearlyValid S) (chans : FinMap nat_cmp Channel) (a b
   behind_more (Directory n flags) h = h
   behind_more (End reads writes flags) h = (h.0, reader_more reads h.1, writer_more writes h.2)
   behind_more (Terminal which flags) h = h
-  behind_more (Process p) h = h
+  behind_more (Process p object) h = h
 
   behind_all : HasBehind with_ends first → HasBehind with_ends second → (r : ℕ) (kind : OpenKind) → get both_opens r ≡ Some kind → HasBehind with_ends kind
   behind_all one two r kind at =

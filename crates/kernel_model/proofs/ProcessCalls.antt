@@ -1,17 +1,24 @@
 -- The meanings of the calls on processes are proper.
-use Rattle.std.proofs.Common.{◌≡◌, ◌≢◌, inl, inr, ℕ, ◌||◌, false, [], ◌∷◌, map, Option, None, Some, is_some, refl, sym, ap, ◌∙◌}
+use Rattle.std.proofs.Common.{◌≡◌, ◌≢◌, inl, inr, ℕ, ◌||◌, false, List, [], ◌∷◌, map, Option, None, Some, is_some, refl, sym, ap, ◌∙◌}
 use Rattle.std.specs.FinMap.{FinMap, empty, get, insert}
 use Rattle.std.specs.Option.{option_map}
 use Rattle.std.specs.Ordering.{nat_cmp}
+use Rattle.abi_base.specs.declared.errno.Errno.{Errno}
+use Rattle.abi_base.specs.declared.errno.Errno.TheVariants.{Inval, Notsup}
+use Rattle.abi_base.specs.declared.signal.Signal.{Signal}
+use Rattle.abi_types.specs.declared.reply.Answer.TheVariants as answer
 use Rattle.abi_types.specs.declared.status.Status.{Status}
-use Rattle.abi_types.specs.declared.status.Status.TheVariants.{Live, Exit}
+use Rattle.abi_types.specs.declared.status.Status.TheVariants.{Live, Exit, Killed}
 use Rattle.maps.specs.Maps.{get-insert-same}
-use Rattle.kernel_model.specs.Families.ProcessCalls.{end_updates, exit_of, proc_exit}
-use Rattle.kernel_model.specs.OwnChanges.{ended_process, HasEndedBy}
-use Rattle.kernel_model.specs.Proper.{IsProper}
+use Rattle.kernel_model.specs.Families.ProcessCalls.{Raised, stops, passes, ends, end_updates, exit_of, proc_exit, proc_raise, raise_as, raise_of, raised_by, signal_of}
+use Rattle.kernel_model.specs.Outcome.{Outcome, replies}
+use Rattle.kernel_model.specs.OwnChanges.{ended_process, keeps_own, HasEndedBy, LeavesOwn}
+use Rattle.kernel_model.specs.Proper.{AllCarryOn, IsIn, IsPlain, IsProper, IsUnset}
+use Rattle.kernel_model.specs.Reply.{refused, success}
 use Rattle.kernel_model.specs.Sight.{process_parts}
-use Rattle.kernel_model.specs.State.{ProcessState, Part, no_locks, at_clock, at_proc, at_status, same_part, has_part, part_of}
-use Rattle.kernel_model.proofs.Parts.{outside_cons, beyond_process, number_apart}
+use Rattle.kernel_model.specs.Valid.{IsNearlyValid}
+use Rattle.kernel_model.specs.State.{State, ProcessState, Part, no_locks, put_all, at_clock, at_proc, at_status, same_part, has_part, part_of}
+use Rattle.kernel_model.proofs.Parts.{outside_cons, beyond_process, number_apart, own_stays}
 use Rattle.kernel_model.proofs.Sights.{first_seen}
 use Rattle.kernel_model.proofs.Tests.{not_true}
 use Rattle.kernel_model.proofs.EndedValid.{end_nearly_valid}
@@ -68,10 +75,63 @@ proc_exit_is_proper code = record {
   plain = λ constants v who table. (refl, inl refl);
   waits = λ h. absurd (not_true h);
   lacks = λ h. absurd (not_true h);
-  others = λ constants v who table q apart. end_others who.pid (v.process who.pid) (Exit code) q apart;
+  others = λ constants v who table q apart _. end_others who.pid (v.process who.pid) (Exit code) q apart;
   own = λ constants S who table.
       inr (ended_live S.statuses who.pid code, ends_own (λ own. own) (λ _. refl) (λ _. refl) who.pid S.processes);
   allows = λ constants S who table. tt;
   carries = λ constants S who table nearly. (tt, (tt, (tt, tt)));
   valid = λ constants S who table there nearly. end_nearly_valid S who.pid (Exit code) (sym (nearly.tables who.pid) ∙ ap is_some there) nearly;
+}
+
+-- ---- proc_raise
+
+abbrev pub raise_errors : List Errno
+raise_errors = Inval ∷ Notsup ∷ []
+
+killed_is_not_live : (signal : Signal) → Some (Killed signal) ≢ Some Live
+killed_is_not_live signal e = cc
+
+-- what holds of each outcome of it
+pub raise_holds : (P : Outcome → Type 0) (p : ℕ) (own : Option ProcessState) → ((errno : Errno) → IsIn errno raise_errors → P (replies (refused errno)))
+    → P (replies (success 0 0)) → ((signal : Signal) → P (record { answer = answer.Reply (success 0 0); updates = end_updates p own (Killed signal) }))
+    → (found : Option Signal) → P (raise_of p own found)
+raise_holds P p own refuses passes_by ends_by None = refuses Inval ([], Notsup ∷ [], refl)
+raise_holds P p own refuses passes_by ends_by (Some signal) = by_kind (raised_by signal) where
+  by_kind : (kind : Raised) → P (raise_as kind p own signal)
+  by_kind stops = refuses Notsup (Inval ∷ [], [], refl)
+  by_kind passes = passes_by
+  by_kind ends = ends_by signal
+
+pub proc_raise_is_proper : (number : ℕ) → IsProper (proc_raise number)
+proc_raise_is_proper number = record {
+  names = tt;
+  sees = tt;
+  reads = λ constants S who table.
+      ap (λ own. raise_of who.pid own (signal_of number)) (first_seen who.pid (has_part (at_status who.pid ∷ []) (at_proc who.pid)) (get S.processes who.pid));
+  walks = λ S who table. refl;
+  sets = λ constants S who table part h.
+      raise_holds (λ o. IsUnset o part) who.pid (get S.processes who.pid) (λ errno here. refl) refl
+      (λ signal. end_unset who.pid (get S.processes who.pid) (Killed signal) part (beyond_process who.pid [] part h).0) (signal_of number);
+  touched = λ S table part h. absurd (not_true h);
+  plain = λ constants v who table.
+      raise_holds (IsPlain raise_errors) who.pid (v.process who.pid) (λ errno here. (refl, inr (refl, here))) (refl, inl refl) (λ signal. (refl, inl refl))
+      (signal_of number);
+  waits = λ h. absurd (not_true h);
+  lacks = λ h. absurd (not_true h);
+  others = λ constants v who table q apart _.
+      raise_holds (λ o. IsUnset o (at_proc q) × IsUnset o (at_status q)) who.pid (v.process who.pid) (λ errno here. (refl, refl)) (refl, refl)
+      (λ signal. end_others who.pid (v.process who.pid) (Killed signal) q apart) (signal_of number);
+  own = λ constants S who table.
+      raise_holds (λ o. LeavesOwn keeps_own who.pid who.tid o.answer S (put_all o.updates S)) who.pid (get S.processes who.pid)
+      (λ errno here. inl (own_stays (get S.processes who.pid))) (inl (own_stays (get S.processes who.pid)))
+      (λ signal. inr (
+        (λ live. killed_is_not_live signal (sym (get-insert-same S.statuses who.pid (Killed signal)) ∙ live)),
+        ends_own (λ own. own) (λ _. refl) (λ _. refl) who.pid S.processes,
+      )) (signal_of number);
+  allows = λ constants S who table. tt;
+  carries = λ constants S who table nearly.
+      raise_holds (AllCarryOn S (table, [], false)) who.pid (get S.processes who.pid) (λ errno here. tt) tt (λ signal. (tt, (tt, (tt, tt)))) (signal_of number);
+  valid = λ constants S who table there nearly.
+      raise_holds (λ o. IsNearlyValid (put_all o.updates S)) who.pid (get S.processes who.pid) (λ errno here. nearly) nearly
+      (λ signal. end_nearly_valid S who.pid (Killed signal) (sym (nearly.tables who.pid) ∙ ap is_some there) nearly) (signal_of number);
 }

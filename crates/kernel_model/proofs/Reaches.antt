@@ -14,6 +14,8 @@ use Rattle.kernel_model.specs.Calls.{meaning_of, named, need, seen, refusal}
 use Rattle.kernel_model.specs.Laws.{IsMet, IsNotThere, IsReached, IsReachedBy, IsReachedByName}
 use Rattle.kernel_model.specs.Need.{has_needed, missing, some_absent, lack_at, either_lack, first_lack, denied_by}
 use Rattle.kernel_model.specs.Families.Numbers.{can_number, new_parts}
+use Rattle.kernel_model.specs.OwnChanges.{born_of, child_parts, made_parts}
+use Rattle.kernel_model.proofs.Births.{child_is_absent}
 use Rattle.kernel_model.specs.Proper.{IsIn, MaySee, NeedsOf}
 use Rattle.kernel_model.specs.Reply.{refused, denied}
 use Rattle.kernel_model.specs.Sight.{process_parts, reached_by, reached}
@@ -165,8 +167,14 @@ made_is_absent : (S : State) (who : Who) (call : Call) (t : Option Table) (q : P
     → can_number who.pid (meaning_of call).numbers (get S.processes who.pid) ≡ true → has_part (made_on S who call t) q ≡ true → IsNotThere S q
 made_is_absent S who call None q v can h = absurd (not_true h)
 made_is_absent S who call (Some table) q v can h =
-    parts_are_absent S who.pid (meaning_of call).numbers q v can
-    (unrefused (refusal table call) (new_parts who.pid (meaning_of call).numbers (get S.processes who.pid)) q h).1
+    let change = (meaning_of call).own in
+    let child = child_parts (born_of change who.pid (get S.processes who.pid)) in
+    let objects = new_parts who.pid (meaning_of call).numbers (get S.processes who.pid) in
+    let made = (unrefused (refusal table call) (made_parts change who.pid (meaning_of call).numbers (get S.processes who.pid)) q h).1 in
+    elim (either_true (has_part child q) (has_part objects q) (sym (has_of_both child objects q) ∙ made)) [
+      | inl born ↦ child_is_absent S who.pid change q v born
+      | inr object ↦ parts_are_absent S who.pid (meaning_of call).numbers q v can object
+    ]
 
 pub made_is_new : (S : State) (who : Who) (call : Call) (q : Part) → IsValid S
     → can_number who.pid (meaning_of call).numbers (get S.processes who.pid) ≡ true → has_part (made_by S who call) q ≡ true → IsNotThere S q

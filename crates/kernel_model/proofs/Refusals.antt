@@ -344,7 +344,7 @@ reply_no_lack constants S who call reply none is errno =
 
 -- ---- an error changes nothing
 
-sets_nothing_at_error : (constants : Constants) (S : State) (who : Who) (call : Call) (reply : Reply) → step_answer constants S who call ≡ answer.Reply reply
+pub sets_nothing_at_error : (constants : Constants) (S : State) (who : Who) (call : Call) (reply : Reply) → step_answer constants S who call ≡ answer.Reply reply
     → reply.errno ≢ Success → (outcome constants S who call).updates ≡ []
 sets_nothing_at_error constants S who call reply is other =
     elim (reply_from constants S who call reply is) [

@@ -154,7 +154,7 @@ module _ (S : State) (n : ℕ) (node : Node) (u : Tree) (works : Reworks (tree_o
   behind_stays (Directory q flags) h = ap (λ t. is_directory t q) put_tree ∙ directory_stays q ∙ h
   behind_stays (End reads writes flags) h = h
   behind_stays (Terminal which flags) h = h
-  behind_stays (Process p) h = h
+  behind_stays (Process p object) h = h
 
   -- a node that wasn't there isn't there still
   none_comes : (q : ℕ) → get S.nodes q ≡ None → get (insert S.nodes n node) q ≡ None

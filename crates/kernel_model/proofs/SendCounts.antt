@@ -244,7 +244,7 @@ module _ (S : State) (table : Table) (fd : ℕ) (bytes : List ℕ) (c : ℕ) (wa
   other_chans moment d (Some (Terminal which flags)) none =
       put_keeps (write_open moment (whole (tick S)) bytes d.id (Some (Terminal which flags))).updates (tick S) (at_chan c)
       ((write_opens_well bytes).sets moment (whole (tick S)) d.id (Some (Terminal which flags)) (at_chan c) refl)
-  other_chans moment d (Some (Process p)) none = refl
+  other_chans moment d (Some (Process p object)) none = refl
 
   write_silent : (moment : ℕ) (d : Descriptor) → get table fd ≡ Some d → (kind : Option OpenKind) → get S.opens d.id ≡ kind → writes_of kind ≡ None
       → Decides S table fd bytes c was now before (write_open moment (whole (tick S)) bytes d.id kind)
@@ -263,7 +263,7 @@ module _ (S : State) (table : Table) (fd : ℕ) (bytes : List ℕ) (c : ℕ) (wa
       (λ after. inr (tt, as_before S table fd bytes c was now before after)) e mode bytes [] (none_sent S table fd bytes c was now before written_reply)
       (λ channel there some. sent S table fd bytes c was now before d here written_reply e mode reads [] channel is there some)
   kind_decides moment d here (Some (Terminal which flags)) is = write_silent moment d here (Some (Terminal which flags)) is refl
-  kind_decides moment d here (Some (Process p)) is = write_silent moment d here (Some (Process p)) is refl
+  kind_decides moment d here (Some (Process p object)) is = write_silent moment d here (Some (Process p object)) is refl
 
   write_decides : (moment : ℕ) (o : Option Descriptor) → get table fd ≡ o
       → Decides S table fd bytes c was now before (at_descriptor (write_open moment (whole (tick S)) bytes) (whole (tick S)) o)
@@ -287,7 +287,7 @@ map_bare place size offset t (Some (File node at flags)) = refl
 map_bare place size offset t (Some (Directory node flags)) = refl
 map_bare place size offset t (Some (End reads writes flags)) = refl
 map_bare place size offset t (Some (Terminal which flags)) = refl
-map_bare place size offset t (Some (Process p)) = refl
+map_bare place size offset t (Some (Process p object)) = refl
 
 mem_map_bare : (constants : Constants) (S : State) (who : Who) (place : Place) (size prot fd offset : ℕ) (table : Table) (zeros : Bool)
     → ((cond zeros (map_zeros place) (on_open (map_row fd prot) (mapping place size offset))).effect constants (whole (tick S)) who table).updates ≡ []

@@ -159,7 +159,7 @@ send_holds S bytes carried P refuses waits nothing (Some (End (Some r) None flag
 send_holds S bytes carried P refuses waits nothing (Some (End (Some r) (Some c) flags)) sent =
     on_holds S sent_reply P refuses waits c flags bytes carried nothing (λ channel there some. sent r c flags channel refl there some)
 send_holds S bytes carried P refuses waits nothing (Some (Terminal which flags)) sent = refuses Notsock (λ e. cc)
-send_holds S bytes carried P refuses waits nothing (Some (Process p)) sent = refuses Notsock (λ e. cc)
+send_holds S bytes carried P refuses waits nothing (Some (Process p object)) sent = refuses Notsock (λ e. cc)
 
 -- The call is a sock_send to the channel, which carries this, but for its answer.
 record Lists (S : State) (who : Who) (call : Call) (c : ℕ) (carried : List Descriptor) : Type 0 where

@@ -82,7 +82,7 @@ module _ (bytes : List ℕ) (carried : List Descriptor) where
   send_open_ends v o (Some (End (Some r) (Some w) flags)) =
       send_ends sent_reply (λ count. (refl, refl)) send_errors send_badf send_again send_pipe v o bytes carried (Some r) (Some w) flags
   send_open_ends v o (Some (Terminal which flags)) = ends_refused _ _ _ _ _ _ _ Notsock send_notsock
-  send_open_ends v o (Some (Process p)) = ends_refused _ _ _ _ _ _ _ Notsock send_notsock
+  send_open_ends v o (Some (Process p object)) = ends_refused _ _ _ _ _ _ _ Notsock send_notsock
 
   send_open_reads : (S : State) (p o : ℕ) (kind : Option OpenKind)
       → send_open (restrict S (seen_parts S p o kind)) bytes carried kind ≡ send_open (whole S) bytes carried kind
@@ -93,7 +93,7 @@ module _ (bytes : List ℕ) (carried : List Descriptor) where
   send_open_reads S p o (Some (End (Some r) None flags)) = refl
   send_open_reads S p o (Some (End (Some r) (Some w) flags)) = send_reads sent_reply S p o bytes carried (Some r) (Some w) flags
   send_open_reads S p o (Some (Terminal which flags)) = refl
-  send_open_reads S p o (Some (Process q)) = refl
+  send_open_reads S p o (Some (Process q object)) = refl
 
   send_open_parks : (v : View) (clock : ℕ) (kind : Option OpenKind) → is_parked (send_open v bytes carried kind).answer ≡ true
       → is_parked (send_open (record v { clock = clock }) bytes carried kind).answer ≡ true
@@ -104,7 +104,7 @@ module _ (bytes : List ℕ) (carried : List Descriptor) where
   send_open_parks v clock (Some (End (Some r) None flags)) h = h
   send_open_parks v clock (Some (End (Some r) (Some w) flags)) h = send_parks sent_reply v clock flags bytes carried (Some w) h
   send_open_parks v clock (Some (Terminal which flags)) h = h
-  send_open_parks v clock (Some (Process p)) h = h
+  send_open_parks v clock (Some (Process p object)) h = h
 
   sent_seen : (S : State) (kind : Option OpenKind) (q : Part) → has_part (sent_part kind) q ≡ true → has_part (behind S kind) q ≡ true
   sent_seen S None q h = absurd (not_true h)
@@ -112,7 +112,7 @@ module _ (bytes : List ℕ) (carried : List Descriptor) where
   sent_seen S (Some (Directory node flags)) q h = absurd (not_true h)
   sent_seen S (Some (End reads writes flags)) q h = has_right (channel_part reads) (channel_part writes) q h
   sent_seen S (Some (Terminal which flags)) q h = absurd (not_true h)
-  sent_seen S (Some (Process p)) q h = absurd (not_true h)
+  sent_seen S (Some (Process p object)) q h = absurd (not_true h)
 
   pub send_sees_well : SeesWell (sending bytes carried)
   send_sees_well = record {
@@ -165,7 +165,7 @@ sock_send_is_proper fd bytes fds = record {
     keeps = refl;
   };
   lacks = (send_sees_well bytes []).lacks;
-  others = λ constants v who table q other.
+  others = λ constants v who table q other _.
       apart_unset (at_descriptor (λ o. send_open v bytes (picked table fds)) v (get table fd)).updates q (send_apart bytes (picked table fds) v (get table fd));
   own = λ constants S who table.
       inl (own_same (get S.processes who.pid) _
@@ -326,7 +326,7 @@ module _ (p : ℕ) (table : Table) (v : View) (n room flags : ℕ) (P : Outcome 
   receive_holds (Some (End (Some r) (Some w) mode)) taken =
       from_holds (is_nonblocking mode) r (v.channel r) (λ channel installed there is. taken r w mode channel installed refl there is)
   receive_holds (Some (Terminal which mode)) taken = refuses Notsock receive_notsock
-  receive_holds (Some (Process q)) taken = refuses Notsock receive_notsock
+  receive_holds (Some (Process q object)) taken = refuses Notsock receive_notsock
 
 module _ (p : ℕ) (table : Table) (n room flags : ℕ) where
   receive_reads : (S : State) (q o : ℕ) (kind : Option OpenKind)
@@ -339,7 +339,7 @@ module _ (p : ℕ) (table : Table) (n room flags : ℕ) where
   receive_reads S q o (Some (End (Some r) (Some w) mode)) =
       ap (receive_from p table n room flags (is_nonblocking mode) r) (reader_seen S q o r (Some w) mode)
   receive_reads S q o (Some (Terminal which mode)) = refl
-  receive_reads S q o (Some (Process x)) = refl
+  receive_reads S q o (Some (Process x object)) = refl
 
   receive_parks : (v : View) (clock : ℕ) (kind : Option OpenKind) → is_parked (receive_open p table v n room flags kind).answer ≡ true
       → is_parked (receive_open p table (record v { clock = clock }) n room flags kind).answer ≡ true
@@ -350,7 +350,7 @@ module _ (p : ℕ) (table : Table) (n room flags : ℕ) where
   receive_parks v clock (Some (End (Some r) None mode)) h = h
   receive_parks v clock (Some (End (Some r) (Some w) mode)) h = h
   receive_parks v clock (Some (Terminal which mode)) h = h
-  receive_parks v clock (Some (Process x)) h = h
+  receive_parks v clock (Some (Process x object)) h = h
 
   received_seen : (S : State) (kind : Option OpenKind) (q : Part) → has_part (received_part kind) q ≡ true → has_part (behind S kind) q ≡ true
   received_seen S None q h = absurd (not_true h)
@@ -358,7 +358,7 @@ module _ (p : ℕ) (table : Table) (n room flags : ℕ) where
   received_seen S (Some (Directory node mode)) q h = absurd (not_true h)
   received_seen S (Some (End reads writes mode)) q h = has_left (channel_part reads) (channel_part writes) q h
   received_seen S (Some (Terminal which mode)) q h = absurd (not_true h)
-  received_seen S (Some (Process x)) q h = absurd (not_true h)
+  received_seen S (Some (Process x object)) q h = absurd (not_true h)
 
   pub receive_sees_well : SeesWell (receiving p table n room flags)
   receive_sees_well = record {
@@ -449,7 +449,7 @@ sock_recv_is_proper fd n room flags = record {
     keeps = refl;
   };
   lacks = (receive_sees_well 0 empty n room flags).lacks;
-  others = λ constants v who table q other. receive_others who.pid table n room flags v (get table fd) q other;
+  others = λ constants v who table q other _. receive_others who.pid table n room flags v (get table fd) q other;
   own = λ constants S who table. inl (own_same (get S.processes who.pid) _ (receive_own who.pid table n room flags S (get table fd)));
   allows = λ constants S who table. tt;
   carries = λ constants S who table nearly. receive_carries who.pid table n room flags S (get table fd);
@@ -566,7 +566,7 @@ module _ (how : ℕ) where
       ap (λ x. shut_then r w x ((restrict S (seen_parts S p o (Some (End (Some r) (Some w) flags)))).channel w)) (reader_seen S p o r (Some w) flags)
       ∙ ap (shut_then r w (get S.chans r)) (writer_seen S p o (Some r) w flags)
   shut_reads S p o (Some (Terminal which flags)) = refl
-  shut_reads S p o (Some (Process q)) = refl
+  shut_reads S p o (Some (Process q object)) = refl
 
   both_seen : (S : State) (kind : Option OpenKind) (q : Part) → has_part (both_parts kind) q ≡ true → has_part (behind S kind) q ≡ true
   both_seen S None q h = absurd (not_true h)
@@ -574,7 +574,7 @@ module _ (how : ℕ) where
   both_seen S (Some (Directory node flags)) q h = absurd (not_true h)
   both_seen S (Some (End reads writes flags)) q h = h
   both_seen S (Some (Terminal which flags)) q h = absurd (not_true h)
-  both_seen S (Some (Process p)) q h = absurd (not_true h)
+  both_seen S (Some (Process p object)) q h = absurd (not_true h)
 
   -- what is shown of each outcome
   record Shuts (v : View) (o : ℕ) (kind : Option OpenKind) (outcome : Outcome) : Type 0 where
@@ -606,7 +606,7 @@ module _ (how : ℕ) where
         shut_valid S nearly (shuts 1) r (v.channel r) (shuts 2) w (v.channel w) (ap (λ (x : View). x.channel r) seen) (ap (λ (x : View). x.channel w) seen);
   }
   shut_ends v o (Some (Terminal which flags)) = shuts_refused _ _ _ Notsock shut_notsock
-  shut_ends v o (Some (Process p)) = shuts_refused _ _ _ Notsock shut_notsock
+  shut_ends v o (Some (Process p object)) = shuts_refused _ _ _ Notsock shut_notsock
 
   pub shut_opens_well : OpensWell (shutting how)
   shut_opens_well = record {

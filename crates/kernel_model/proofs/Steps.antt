@@ -1,42 +1,51 @@
 -- What each step keeps: a valid state, the clock's pace, other processes, and of a process that lives on the threads that its call
 -- neither makes nor ends.
-use Rattle.std.proofs.Common.{◌≡◌, ◌≢◌, inl, inr, ℕ, ◌+◌, false, List, [], ◌∷◌, map, true, Some, IsSome, is_some, ◌⊎◌, refl, sym, ap, subst, ◌∙◌}
+use Rattle.std.specs.Prelude.{if◌then◌else◌}
+use Rattle.std.proofs.Common.{◌≡◌, ◌≢◌, inl, inr, ℕ, ◌+◌, Bool, false, Option, None, List, [], ◌∷◌, map, true, Some, IsSome, is_some, ◌⊎◌, refl, sym, ap, subst, ◌∙◌}
 use Rattle.std.proofs.lemmas.Bool.Decides.{eqb_tells}
 use Rattle.std.specs.Ordering.{nat_cmp}
 use Rattle.std.specs.Option.{option_map}
-use Rattle.std.specs.FinMap.{FinMap, get, empty, insert}
-use Rattle.abi_base.specs.declared.errno.Errno.TheVariants.{Nomem}
+use Rattle.std.specs.FinMap.{FinMap, get, get-empty, empty, insert}
+use Rattle.abi_base.specs.declared.errno.Errno.{Errno}
+use Rattle.abi_base.specs.declared.errno.Errno.TheVariants.{Nomem, Success}
 use Rattle.abi_types.specs.declared.reply.Answer.{Answer}
 use Rattle.abi_types.specs.declared.reply.Answer.TheVariants as answer
 use Rattle.abi_types.specs.declared.call.Call.{Call}
+use Rattle.abi_types.specs.declared.call.Call.TheVariants as call
 use Rattle.abi_types.specs.declared.constants.Constants.{Constants}
 use Rattle.abi_types.specs.declared.status.Status.{Status}
 use Rattle.abi_types.specs.declared.status.Status.TheVariants.{Live}
+use Rattle.abi_types.specs.declared.thread.Thread.TheVariants.{Runnable}
 use Rattle.abi_types.specs.declared.who.Who.{Who}
 use Rattle.maps.specs.Maps.{get-insert-same, get-insert-other}
 use Rattle.kernel_model.specs.Laws.{HasSameProcess, IsKilled, MovesOnly, EndsOnly}
 use Rattle.kernel_model.specs.Calls.{meaning_of}
-use Rattle.kernel_model.specs.Outcome.{Outcome}
-use Rattle.kernel_model.specs.OwnChanges.{own_by, AllowsChange, IsChangedBy, LeavesOwn}
+use Rattle.kernel_model.specs.Families.DescriptorCalls.{lowest_free}
+use Rattle.kernel_model.specs.Families.ForkCalls.{child_number, child_process, fork_updates}
+use Rattle.kernel_model.specs.Families.Numbers.{made_more}
+use Rattle.kernel_model.specs.Outcome.{Outcome, is_parked}
+use Rattle.kernel_model.specs.OwnChanges.{born_of, next_child, own_by, with_next_child, AllowsChange, IsChangedBy, LeavesOwn}
 use Rattle.kernel_model.specs.Families.ProcessCalls.{ended_process, end_updates}
 use Rattle.kernel_model.specs.Proper.{IsUnset}
 use Rattle.kernel_model.specs.Reply.{refused}
-use Rattle.kernel_model.specs.Release.{ends, is_killed, release, status_left}
-use Rattle.kernel_model.specs.State.{State, Table, ProcessState, Update, set_table, set_status, at_proc, at_status, has_part, part_of, put_one, put_all, counts_in, threads_of}
+use Rattle.kernel_model.specs.Release.{ends, is_killed, process_left, release, status_left}
+use Rattle.kernel_model.specs.State.{State, Table, ProcessState, Update, set_table, set_status, at_proc, at_status, has_part, part_of, put_one, put_all, counts_in, thread_in, threads_of}
 use Rattle.kernel_model.specs.Step.{tick, outcome, unreleased, step_answer, step_state, IsStep, end_unreleased, end_state}
-use Rattle.kernel_model.specs.Threads.{LeavesCounts, LeavesThreads}
+use Rattle.kernel_model.specs.Threads.{BearsRunning, LeavesCounts, LeavesThreads, child_made, child_told, is_done, is_success}
 use Rattle.kernel_model.specs.Valid.{IsNearlyValid, IsValid}
 use Rattle.kernel_model.specs.View.{whole}
 use Rattle.kernel_model.specs.Waits.{waiting}
 use Rattle.kernel_model.proofs.Calls.{proper}
-use Rattle.kernel_model.proofs.Ends.{killed_by, process_spared, status_after, status_spared}
+use Rattle.kernel_model.proofs.Births.{fork_holds, next_is}
+use Rattle.kernel_model.proofs.Ends.{killed_by, process_after, process_spared, status_after, status_spared}
 use Rattle.kernel_model.proofs.Outcomes.{outcome_holds}
 use Rattle.kernel_model.proofs.Parking.{parks_only}
 use Rattle.kernel_model.proofs.Parts.{put_keeps}
 use Rattle.kernel_model.proofs.ProcessCalls.{end_others}
-use Rattle.kernel_model.proofs.Tests.{same_some}
+use Rattle.kernel_model.proofs.Refusals.{sets_nothing_at_error}
+use Rattle.kernel_model.proofs.Tests.{none_is_no, not_true, same_some}
 use Rattle.kernel_model.proofs.Threading.{waits_apart, waits_if_holds, waits_if_same, with_counts, with_nearly_valid}
-use Rattle.kernel_model.proofs.Threads.{IsOwnAfter, leaves_counts, leaves_threads, refusal_of_fails, undone_allows, undone_stays}
+use Rattle.kernel_model.proofs.Threads.{IsOwnAfter, child_is, leaves_counts, leaves_threads, refusal_bears, refusal_of_fails, undone_allows, undone_stays}
 use Rattle.kernel_model.proofs.Touches.{killed_is_not_live, live_spared, release_ends, release_keeps}
 use Rattle.kernel_model.proofs.EndedValid.{counts_stay, end_nearly_valid}
 use Rattle.kernel_model.proofs.Valids.{left_counts, release_restores, some_mapped, tick_nearly_valid, tick_valid}
@@ -93,10 +102,10 @@ put_others us S q proc status =
     let own = put_keeps us S (at_proc q) proc in (own.0, own.1, put_keeps us S (at_status q) status)
 
 outcome_others : (constants : Constants) (S : State) (who : Who) (call : Call) (q : ℕ) → q ≢ who.pid
-    → IsUnset (outcome constants S who call) (at_proc q) × IsUnset (outcome constants S who call) (at_status q)
-outcome_others constants S who call q apart =
+    → born_of (meaning_of call).own who.pid (get S.processes who.pid) ≢ Some q → IsUnset (outcome constants S who call) (at_proc q) × IsUnset (outcome constants S who call) (at_status q)
+outcome_others constants S who call q apart unborn =
     outcome_holds (λ (o : Outcome). IsUnset o (at_proc q) × IsUnset o (at_status q)) constants S who call (λ reply _. (refl, refl))
-    (λ table _. (proper call).others constants (whole (tick S)) who table q apart)
+    (λ table _. (proper call).others constants (whole (tick S)) who table q apart unborn)
 
 -- the release leaves a process as it is, or it kills it
 release_others : (U : State) (q : ℕ) → HasSameProcess (release U) U q ⊎ IsKilled U (release U) q
@@ -118,10 +127,35 @@ others_from S U T q same (inr killed) =
       (sym same.2 ∙ killed.1.0, killed.1.1),
     )
 
-unreleased_others : (constants : Constants) (S : State) (who : Who) (call : Call) (q : ℕ) → q ≢ who.pid → HasSameProcess (unreleased constants S who call) S q
-unreleased_others constants S who call q apart =
+-- the child of a call that was answered so is not this process
+abbrev IsUnborn : State → Who → Call → Answer → ℕ → Type 0
+IsUnborn S who call given q = child_made call given who.pid (get S.processes who.pid) ≢ Some q
+
+success_is_done : (errno : Errno) → is_success errno ≡ false → errno ≢ Success
+success_is_done errno isnt is = not_true (sym isnt ∙ ap is_success is)
+
+-- a call that is not done sets nothing
+undone_sets : (constants : Constants) (S : State) (who : Who) (call : Call) (given : Answer) → step_answer constants S who call ≡ given
+    → is_done given ≡ false → (outcome constants S who call).updates ≡ []
+undone_sets constants S who call (answer.Parked writes) is isnt = (parks_only constants S who call (ap is_parked is)).unset
+undone_sets constants S who call (answer.Reply reply) is isnt = sets_nothing_at_error constants S who call reply is (success_is_done reply.errno isnt)
+
+outcome_unset : (constants : Constants) (S : State) (who : Who) (call : Call) (q : ℕ) → q ≢ who.pid → IsUnborn S who call (step_answer constants S who call) q
+    → IsUnset (outcome constants S who call) (at_proc q) × IsUnset (outcome constants S who call) (at_status q)
+outcome_unset constants S who call q apart unborn =
+    let a = step_answer constants S who call in
+    elim (is_done a) as (λ b. is_done a ≡ b → IsUnset (outcome constants S who call) (at_proc q) × IsUnset (outcome constants S who call) (at_status q)) [
+      | true ↦ λ done. outcome_others constants S who call q apart (λ is. unborn (child_is call a who.pid (get S.processes who.pid) done ∙ is))
+      | false ↦ λ isnt. (
+          let none = undone_sets constants S who call a refl isnt in
+          (ap (λ us. has_part (map part_of us) (at_proc q)) none, ap (λ us. has_part (map part_of us) (at_status q)) none))
+    ] refl
+
+unreleased_others : (constants : Constants) (S : State) (who : Who) (call : Call) (q : ℕ) → q ≢ who.pid → IsUnborn S who call (step_answer constants S who call) q
+    → HasSameProcess (unreleased constants S who call) S q
+unreleased_others constants S who call q apart unborn =
     let after = put_all (outcome constants S who call).updates (tick S) in
-    let unset = outcome_others constants S who call q apart in
+    let unset = outcome_unset constants S who call q apart unborn in
     let same = put_others (outcome constants S who call).updates (tick S) q unset.0 unset.1 in
     let a = step_answer constants S who call in
     let thread = waiting constants call who.since in (
@@ -130,11 +164,107 @@ unreleased_others constants S who call q apart =
       waits_if_same (λ U. get U.statuses q ≡ get S.statuses q) a who thread after (λ h. h) same.2,
     )
 
-step_others : (constants : Constants) (S : State) (who : Who) (call : Call) (q : ℕ) → q ≢ who.pid
+step_others : (constants : Constants) (S : State) (who : Who) (call : Call) (q : ℕ) → q ≢ who.pid → IsUnborn S who call (step_answer constants S who call) q
     → HasSameProcess (step_state constants S who call) S q ⊎ IsKilled S (step_state constants S who call) q
-step_others constants S who call q apart =
-    others_from S (unreleased constants S who call) (step_state constants S who call) q (unreleased_others constants S who call q apart)
+step_others constants S who call q apart unborn =
+    others_from S (unreleased constants S who call) (step_state constants S who call) q (unreleased_others constants S who call q apart unborn)
     (release_others (unreleased constants S who call) q)
+
+-- ---- the child
+
+-- the process is one that the thread has made by a fork
+abbrev IsNewborn : ℕ → ℕ → State → Type 0
+IsNewborn t q U = (own : ProcessState) × (get U.processes q ≡ Some (child_process t own))
+
+-- a fork that is answered so has made its child
+abbrev HasBorn : State → Who → ℕ → ℕ → Outcome → Type 0
+HasBorn S who left q o =
+    child_made (call.ProcFork left) o.answer who.pid (get S.processes who.pid) ≡ Some q → IsNewborn who.tid q (put_all o.updates (tick S))
+
+never_born : {X : Type 0} (b : Bool) (own : Option ProcessState) (p q : ℕ) → b ≡ false → (if b then next_child p own else None) ≡ Some q → X
+never_born true own p q isnt is = absurd (not_true (sym isnt))
+never_born false own p q isnt is = absurd (none_is_no q is)
+
+fork_bears : (constants : Constants) (S : State) (who : Who) (left q : ℕ) → HasBorn S who left q (outcome constants S who (call.ProcFork left))
+fork_bears constants S who left q =
+    outcome_holds (HasBorn S who left q) constants S who (call.ProcFork left)
+    (λ reply refuses. never_born (is_success reply.errno) (get S.processes who.pid) who.pid q
+    (refusal_of_fails (call.ProcFork left) (get S.tables who.pid) reply refuses))
+    (λ table _.
+    fork_holds left who.pid who.tid (get S.processes who.pid) table (lowest_free table) (HasBorn S who left q)
+    (λ errno _ other. never_born (is_success errno) (get S.processes who.pid) who.pid q other)
+    (λ fd own free there can is.
+    let number : child_number who.pid own ≡ q = same_some (child_number who.pid own) q (sym (next_is who.pid own can.bears) ∙ sym (ap (next_child who.pid) there) ∙ is) in (
+      own,
+      subst (λ k. get (put_all (fork_updates who.pid who.tid own table fd) (tick S)).processes k ≡ Some (child_process who.tid own)) number
+          (get-insert-same (insert S.processes who.pid (made_more 2 (with_next_child own))) (child_number who.pid own) (child_process who.tid own)),
+    )))
+
+-- what the answer to a fork tells is the child that it makes
+abbrev TellsChild : State → Who → ℕ → Outcome → Type 0
+TellsChild S who left o = child_told (call.ProcFork left) o.answer ≡ child_made (call.ProcFork left) o.answer who.pid (get S.processes who.pid)
+
+not_made : (b : Bool) (p : ℕ) (own : Option ProcessState) → b ≡ false → (if b then next_child p own else None) ≡ None
+not_made true p own isnt = absurd (not_true (sym isnt))
+not_made false p own isnt = refl
+
+tells : (constants : Constants) (S : State) (who : Who) (left : ℕ) → TellsChild S who left (outcome constants S who (call.ProcFork left))
+tells constants S who left =
+    outcome_holds (TellsChild S who left) constants S who (call.ProcFork left)
+    (λ reply refuses.
+    refusal_bears (call.ProcFork left) (get S.tables who.pid) reply refuses
+    ∙ sym (not_made (is_success reply.errno) who.pid (get S.processes who.pid) (refusal_of_fails (call.ProcFork left) (get S.tables who.pid) reply refuses)))
+    (λ table _.
+    fork_holds left who.pid who.tid (get S.processes who.pid) table (lowest_free table) (TellsChild S who left)
+    (λ errno _ other. sym (not_made (is_success errno) who.pid (get S.processes who.pid) other))
+    (λ fd own free there can. sym (ap (next_child who.pid) there ∙ next_is who.pid own can.bears)))
+
+lacking_tells : (S : State) (who : Who) (call : Call)
+    → child_told call (answer.Reply (refused Nomem)) ≡ child_made call (answer.Reply (refused Nomem)) who.pid (get S.processes who.pid)
+lacking_tells S who (call.ProcFork left) = refl
+lacking_tells S who _ = refl
+
+answer_tells : (constants : Constants) (S : State) (who : Who) (call : Call)
+    → child_told call (step_answer constants S who call) ≡ child_made call (step_answer constants S who call) who.pid (get S.processes who.pid)
+answer_tells constants S who (call.ProcFork left) = tells constants S who left
+answer_tells constants S who _ = refl
+
+pub fork_tells_child : (constants : Constants) (S : State) (who : Who) (call : Call) (given : Answer) (T : State) → IsStep constants S who call given T
+    → child_told call given ≡ child_made call given who.pid (get S.processes who.pid)
+fork_tells_child constants S who call given T (inl done) =
+    subst (λ a. child_told call a ≡ child_made call a who.pid (get S.processes who.pid)) (sym done.0) (answer_tells constants S who call)
+fork_tells_child constants S who call given T (inr lacking) =
+    subst (λ a. child_told call a ≡ child_made call a who.pid (get S.processes who.pid)) (sym lacking.1) (lacking_tells S who call)
+
+runs_or_none : (killed : Bool) (t u : ℕ) (own : ProcessState)
+    → (get (process_left killed (child_process t own)).threads u ≡ None) ⊎ (get (process_left killed (child_process t own)).threads u ≡ Some Runnable)
+runs_or_none true t u own = inl (get-empty nat_cmp u)
+runs_or_none false t u own =
+    elim (eqb_tells u t) [
+      | inl is ↦ inr (ap (get (insert empty t Runnable)) is.1 ∙ get-insert-same empty t Runnable)
+      | inr other ↦ inl (get-insert-other empty t Runnable u other.1 ∙ get-empty nat_cmp u)
+    ]
+
+born_runs : (constants : Constants) (S : State) (who : Who) (call : Call) → BearsRunning who.pid call (step_answer constants S who call) S (step_state constants S who call)
+born_runs constants S who (call.ProcFork left) q born t =
+    let c = call.ProcFork left in
+    let a = step_answer constants S who c in
+    let U = unreleased constants S who c in
+    let new = waits_if_holds (IsNewborn who.tid q) a who (waiting constants c who.since) (put_all (outcome constants S who c).updates (tick S))
+    (λ parked. absurd (parked_bears a who.pid (get S.processes who.pid) q parked born)) (fork_bears constants S who left q born) in
+    let after = process_after U (ends U) q ∙ ap (option_map (process_left (is_killed U (ends U) q))) new.1 in
+    let at = ap (λ (o : Option ProcessState). thread_in (option_map (λ (own : ProcessState). own.threads) o) t) after in
+    elim (runs_or_none (is_killed U (ends U) q) who.tid t new.0) [ inl none ↦ inl (at ∙ none) | inr runs ↦ inr (at ∙ runs) ] where
+      parked_bears : (given : Answer) (p : ℕ) (own : Option ProcessState) (q : ℕ) → is_parked given ≡ true
+          → child_made (call.ProcFork left) given p own ≡ Some q → ⊥
+      parked_bears (answer.Parked writes) p own q parked is = none_is_no q is
+      parked_bears (answer.Reply reply) p own q parked is = not_true parked
+born_runs constants S who _ q born t = absurd (none_is_no q born)
+
+-- a call that lacks memory makes none
+lacking_bears : (S T : State) (who : Who) (call : Call) → BearsRunning who.pid call (answer.Reply (refused Nomem)) S T
+lacking_bears S T who (call.ProcFork left) q born t = absurd (none_is_no q born)
+lacking_bears S T who _ q born t = absurd (none_is_no q born)
 
 -- a process that lives after it was not killed
 pub unless_killed : (S T : State) (q : ℕ) → get T.statuses q ≡ Some Live → HasSameProcess T S q ⊎ IsKilled S T q → HasSameProcess T S q
@@ -247,14 +377,16 @@ pub step_moves_only : (constants : Constants) (S : State) (who : Who) (call : Ca
 step_moves_only constants S who call given T (inl done) =
     subst (MovesOnly constants S who call given) (sym done.1) (subst (λ a. MovesOnly constants S who call a (step_state constants S who call)) (sym done.0) (record {
       clock = unreleased_clock constants S who call;
-      others = λ q apart. step_others constants S who call q apart;
+      others = λ q apart unborn. step_others constants S who call q apart unborn;
+      born = born_runs constants S who call;
       threads = step_leaves constants S who call;
       counts = step_counts constants S who call;
     }))
 step_moves_only constants S who call given T (inr lacking) =
     subst (MovesOnly constants S who call given) (sym lacking.2) (subst (λ a. MovesOnly constants S who call a (tick S)) (sym lacking.1) (record {
       clock = refl;
-      others = λ q apart. inl (refl, refl, refl);
+      others = λ q apart _. inl (refl, refl, refl);
+      born = lacking_bears S (tick S) who call;
       threads = λ live. leaves_threads constants S who call (answer.Reply (refused Nomem)) (tick S) (tick S) (lacking_own S who call) refl;
       counts = leaves_counts call (answer.Reply (refused Nomem)) who.pid who.tid S (tick S) (lacking_own S who call).0 (inl (lacking_own S who call).1);
     }))

@@ -82,7 +82,7 @@ thread_create_is_proper = record {
       made_holds (IsPlain (Again ∷ [])) who.pid who.tid (v.process who.pid) (refl, inr (refl, ([], [], refl))) (λ own _ _. (refl, inl refl));
   waits = λ h. absurd (not_true h);
   lacks = λ _. ((λ e. cc), tt);
-  others = λ constants v who table q apart.
+  others = λ constants v who table q apart _.
       made_holds (λ o. IsUnset o (at_proc q) × IsUnset o (at_status q)) who.pid who.tid (v.process who.pid) (refl, refl)
       (λ own _ _. (other_table who.pid q apart, refl));
   own = λ constants S who table.
@@ -143,7 +143,7 @@ thread_exit_is_proper lock word = record {
       (λ new _. (refl, inl refl)) (λ new own _ _. (refl, inl refl));
   waits = λ h. absurd (not_true h);
   lacks = λ h. absurd (not_true h);
-  others = λ constants v who table q apart.
+  others = λ constants v who table q apart _.
       left_holds (λ o. IsUnset o (at_proc q) × IsUnset o (at_status q)) who.pid who.tid (v.process who.pid) lock (unlocked who.tid word) (refl, refl)
       (λ new _. end_others who.pid (v.process who.pid) (Exit 0) q apart) (λ new own _ _. (other_table who.pid q apart, refl));
   own = λ constants S who table.

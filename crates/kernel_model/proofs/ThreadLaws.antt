@@ -56,22 +56,22 @@ use Rattle.kernel_model.proofs.Valids.{release_valid, tick_nearly_valid, tick_va
 
 -- ---- the state after an outcome
 
-abbrev state_of : Constants → State → Who → Call → Outcome → State
+abbrev pub state_of : Constants → State → Who → Call → Outcome → State
 state_of constants S who call o = release (waits_if o.answer who (waiting constants call who.since) (put_all o.updates (tick S)))
 
 -- what an outcome comes to that is a success
-abbrev Comes : (Reply → State → Type 0) → Constants → State → Who → Call → Outcome → Type 0
+abbrev pub Comes : (Reply → State → Type 0) → Constants → State → Who → Call → Outcome → Type 0
 Comes P constants S who call o =
     (reply : Reply) → answer.Reply reply ≡ o.answer → reply.errno ≡ Success → P reply (state_of constants S who call o)
 
 not_success : (errno : Errno) (reply : Reply) → is_success errno ≡ false → reply.errno ≡ errno → reply.errno ≡ Success → ⊥
 not_success errno reply isnt is done = not_true (sym isnt ∙ ap is_success (sym is ∙ done))
 
-fails : {X : Type 0} (errno : Errno) (reply : Reply) → is_success errno ≡ false → answer.Reply reply ≡ answer.Reply (refused errno) → reply.errno ≡ Success → X
+pub fails : {X : Type 0} (errno : Errno) (reply : Reply) → is_success errno ≡ false → answer.Reply reply ≡ answer.Reply (refused errno) → reply.errno ≡ Success → X
 fails errno reply isnt is done =
     absurd (not_success errno reply isnt (ap (λ (r : Reply). r.errno) (same_reply reply (refused errno) is)) done)
 
-success_is : (errno : Errno) → is_success errno ≡ true → errno ≡ Success
+pub success_is : (errno : Errno) → is_success errno ≡ true → errno ≡ Success
 success_is Success is = refl
 success_is _ is = absurd (not_true is)
 

@@ -2,14 +2,14 @@
 --     undone_stays, made_where, ended_where      what a call that is not done, that makes no thread, and that ends none leaves
 --     leaves_threads      the law of threads, by what the call does to its process
 --     leaves_counts      the law of counts
---     keeps_others      no step ends the other threads of its process, since proc_exec isn't built yet
---     waited_draws, waited_keeps      a call in which a thread may wait draws no words, and makes and ends no thread
+--     bears_is, child_is      what a call that makes a child is by its meaning
+--     waited_draws, waited_keeps      a call in which a thread may wait draws no words, makes no child, and makes and ends no thread
 use Rattle.std.proofs.Common.{◌≡◌, ◌≢◌, ◌⊎◌, ℕ, ◌+◌, ◌==◌, ◌≤◌, Bool, true, false, cond, List, Option, Some, None, IsSome, inl, inr, refl, sym, ap, subst, ◌∙◌, arith}
 use Rattle.std.proofs.lemmas.Bool.{eq-eqb}
 use Rattle.std.proofs.lemmas.Bool.Decides.{eqb_tells}
 use Rattle.std.specs.Prelude.{if◌then◌else◌}
 use Rattle.std.specs.Option.{option_map}
-use Rattle.std.specs.FinMap.{get, remove}
+use Rattle.std.specs.FinMap.{get, remove, retain_keys}
 use Rattle.abi_types.specs.Families.{is_anonymous}
 use Rattle.abi_types.specs.declared.reply.Answer.{Answer}
 use Rattle.abi_types.specs.declared.reply.Answer.TheVariants as answer
@@ -25,7 +25,7 @@ use Rattle.abi_types.specs.declared.thread.Thread.{Thread}
 use Rattle.abi_types.specs.declared.thread.Thread.TheVariants.{Runnable}
 use Rattle.abi_types.specs.declared.who.Who.{Who}
 use Rattle.maps.specs.Closure.{changed, get-changed}
-use Rattle.maps.specs.Maps.{get-insert-same, get-insert-other, get-remove-same, get-remove-other}
+use Rattle.maps.specs.Maps.{get-insert-same, get-insert-other, get-remove-same, get-remove-other, get-retain}
 use Rattle.kernel_model.specs.Calls.{meaning_of, named, need, refusal_of}
 use Rattle.kernel_model.specs.Families.FileMeaning.{on_open}
 use Rattle.kernel_model.specs.Families.MemoryCalls.{map_row, map_zeros, mapping}
@@ -33,11 +33,11 @@ use Rattle.kernel_model.specs.Families.Numbers.{made_more}
 use Rattle.kernel_model.specs.Meaning.{Meaning}
 use Rattle.kernel_model.specs.Need.{some_absent, first_lack, denied_by}
 use Rattle.kernel_model.specs.Outcome.{Outcome, OnReply}
-use Rattle.kernel_model.specs.OwnChanges.{OwnChange, keeps_own, makes_one, ends_one, draws_words, drawn_more, is_done, is_success, next_thread, own_by, with_next_thread, without_thread, IsChangedBy, HasEndedBy, AllowsChange, LeavesOwn}
+use Rattle.kernel_model.specs.OwnChanges.{OwnChange, keeps_own, makes_one, ends_one, draws_words, forks_one, begins_anew, begun_anew, born_of, drawn_more, next_child, with_next_child, is_done, is_success, next_thread, own_by, with_next_thread, without_thread, IsChangedBy, HasEndedBy, AllowsChange, LeavesOwn}
 use Rattle.kernel_model.specs.Reply.{refused, denied}
 use Rattle.kernel_model.specs.State.{State, Table, Threads, ProcessState, no_counts, counts_in, threads_of, thread_in, thread_of}
 use Rattle.kernel_model.specs.Step.{step_answer, IsStep}
-use Rattle.kernel_model.specs.Threads.{ends_caller, ends_others, makes_thread, next_number, words_drawn, LeavesCounts, LeavesThreads}
+use Rattle.kernel_model.specs.Threads.{child_in, child_made, ends_caller, ends_others, makes_child, makes_thread, next_number, words_drawn, LeavesCounts, LeavesThreads}
 use Rattle.kernel_model.specs.Waits.{may_wait, thread_set, waiting, waits_if}
 use Rattle.kernel_model.proofs.Outcomes.{outcome_holds}
 use Rattle.kernel_model.proofs.Parts.{number_apart, own_stays}
@@ -57,7 +57,17 @@ ends_by _ given = false
 
 abbrev draws_by : OwnChange → Answer → ℕ
 draws_by (draws_words words) given = if is_done given then words else 0
+draws_by (begins_anew words) given = if is_done given then words else 0
 draws_by _ given = 0
+
+-- whether it makes a child, and whether it ends the other threads
+abbrev bears_by : OwnChange → Answer → Bool
+bears_by forks_one given = is_done given
+bears_by _ given = false
+
+abbrev clears_by : OwnChange → Answer → Bool
+clears_by (begins_anew words) given = is_done given
+clears_by _ given = false
 
 either_keeps : (b : Bool) (one other : Meaning) → one.own ≡ keeps_own → other.own ≡ keeps_own → (if b then one else other).own ≡ keeps_own
 either_keeps true one other first second = first
@@ -85,6 +95,33 @@ draws_is (call.MemMap place length prot flags fd offset) given =
     (map_keeps_own (is_anonymous flags) (map_zeros place) (on_open (map_row fd prot) (mapping place length offset)) refl refl)
 draws_is _ given = refl
 
+bears_is : (call : Call) (given : Answer) → makes_child call given ≡ bears_by (meaning_of call).own given
+bears_is (call.MemMap place length prot flags fd offset) given =
+    ap (λ change. bears_by change given)
+    (map_keeps_own (is_anonymous flags) (map_zeros place) (on_open (map_row fd prot) (mapping place length offset)) refl refl)
+bears_is _ given = refl
+
+clears_is : (call : Call) (given : Answer) → ends_others call given ≡ clears_by (meaning_of call).own given
+clears_is (call.MemMap place length prot flags fd offset) given =
+    ap (λ change. clears_by change given)
+    (map_keeps_own (is_anonymous flags) (map_zeros place) (on_open (map_row fd prot) (mapping place length offset)) refl refl)
+clears_is _ given = refl
+
+-- a call that is done makes the child that its meaning says
+born_by : (change : OwnChange) (given : Answer) (p : ℕ) (own : Option ProcessState) → is_done given ≡ true
+    → (if bears_by change given then next_child p own else None) ≡ born_of change p own
+born_by keeps_own given p own done = refl
+born_by makes_one given p own done = refl
+born_by ends_one given p own done = refl
+born_by (draws_words words) given p own done = refl
+born_by (begins_anew words) given p own done = refl
+born_by forks_one given p own done = ap (λ b. if b then next_child p own else None) done
+
+pub child_is : (call : Call) (given : Answer) (p : ℕ) (own : Option ProcessState) → is_done given ≡ true
+    → child_made call given p own ≡ born_of (meaning_of call).own p own
+child_is call given p own done =
+    ap (λ b. if b then next_child p own else None) (bears_is call given) ∙ born_by (meaning_of call).own given p own done
+
 -- ---- the process by what was done
 
 -- a call that is not done leaves all
@@ -93,6 +130,8 @@ undone keeps_own t given isnt own = refl
 undone makes_one t given isnt own = ap (λ b. if b then with_next_thread own else own) isnt
 undone ends_one t given isnt own = ap (λ b. if b then without_thread t own else own) isnt
 undone (draws_words words) t given isnt own = ap (λ b. if b then drawn_more words own else own) isnt
+undone forks_one t given isnt own = ap (λ b. if b then with_next_child own else own) isnt
+undone (begins_anew words) t given isnt own = ap (λ b. if b then begun_anew words t own else own) isnt
 
 pub undone_stays : (change : OwnChange) (t : ℕ) (given : Answer) → is_done given ≡ false → (o : Option ProcessState) → IsChangedBy (own_by change t given) o o
 undone_stays change t given isnt None = (0, refl)
@@ -106,14 +145,30 @@ parked_makes keeps_own writes = refl
 parked_makes makes_one writes = refl
 parked_makes ends_one writes = refl
 parked_makes (draws_words words) writes = refl
+parked_makes forks_one writes = refl
+parked_makes (begins_anew words) writes = refl
 
 parked_ends : (change : OwnChange) (writes : WordWrites) → ends_by change (answer.Parked writes) ≡ false
 parked_ends keeps_own writes = refl
 parked_ends makes_one writes = refl
 parked_ends ends_one writes = refl
 parked_ends (draws_words words) writes = refl
+parked_ends forks_one writes = refl
+parked_ends (begins_anew words) writes = refl
+
+parked_clears : (change : OwnChange) (writes : WordWrites) → clears_by change (answer.Parked writes) ≡ false
+parked_clears keeps_own writes = refl
+parked_clears makes_one writes = refl
+parked_clears ends_one writes = refl
+parked_clears (draws_words words) writes = refl
+parked_clears forks_one writes = refl
+parked_clears (begins_anew words) writes = refl
 
 -- ---- one thread
+
+-- a thread that is left alone
+retained_here : (threads : Threads) (t u : ℕ) → get (retain_keys threads (λ k. k == t)) u ≡ cond (u == t) (get threads u) None
+retained_here threads t u = get-retain threads (λ k. k == t) u
 
 -- the threads of a process that is changed by the call
 abbrev threads_after : OwnChange → ℕ → Answer → ProcessState → Threads
@@ -121,12 +176,23 @@ threads_after change t given own = (own_by change t given own).threads
 
 -- one that the call doesn't end is what it was, where it was there; that the number of the next was free is known
 kept_thread : (change : OwnChange) (t : ℕ) (given : Answer) (own : ProcessState) (u : ℕ) → AllowsChange change t given (Some own)
-    → (u ≡ t → ends_by change given ≡ false) → (IsSome (get own.threads u) ⊎ (makes_by change given ≡ false))
-    → get (threads_after change t given own) u ≡ get own.threads u
-kept_thread keeps_own t given own u fresh lasts there = refl
-kept_thread (draws_words words) t given own u fresh lasts there =
+    → (u ≡ t → ends_by change given ≡ false) → (u ≢ t → clears_by change given ≡ false)
+    → (IsSome (get own.threads u) ⊎ (makes_by change given ≡ false)) → get (threads_after change t given own) u ≡ get own.threads u
+kept_thread keeps_own t given own u fresh lasts stays there = refl
+kept_thread (draws_words words) t given own u fresh lasts stays there =
     elim (is_done given) as (λ b. get (if b then drawn_more words own else own).threads u ≡ get own.threads u) [ true ↦ refl | false ↦ refl ]
-kept_thread makes_one t given own u fresh lasts there =
+kept_thread forks_one t given own u fresh lasts stays there =
+    elim (is_done given) as (λ b. get (if b then with_next_child own else own).threads u ≡ get own.threads u) [ true ↦ refl | false ↦ refl ]
+kept_thread (begins_anew words) t given own u fresh lasts stays there =
+    elim (is_done given) as (λ b. is_done given ≡ b → get (if b then begun_anew words t own else own).threads u ≡ get own.threads u) [
+      | true ↦ λ done. (
+          elim (eqb_tells u t) [
+            | inl is ↦ retained_here own.threads t u ∙ ap (λ b. cond b (get own.threads u) None) is.0
+            | inr apart ↦ absurd (not_true (sym (stays apart.1) ∙ done))
+          ])
+      | false ↦ λ _. refl
+    ] refl
+kept_thread makes_one t given own u fresh lasts stays there =
     elim (is_done given) as (λ b. is_done given ≡ b → get (if b then with_next_thread own else own).threads u ≡ get own.threads u) [
       | true ↦ λ done. (
           elim (eqb_tells u (next_thread own)) [
@@ -138,7 +204,7 @@ kept_thread makes_one t given own u fresh lasts there =
           ])
       | false ↦ λ _. refl
     ] refl
-kept_thread ends_one t given own u fresh lasts there =
+kept_thread ends_one t given own u fresh lasts stays there =
     elim (is_done given) as (λ b. is_done given ≡ b → get (if b then without_thread t own else own).threads u ≡ get own.threads u) [
       | true ↦ λ done. (
           elim (eqb_tells u t) [
@@ -153,6 +219,8 @@ ended_here : (change : OwnChange) (t : ℕ) (given : Answer) (own : ProcessState
 ended_here keeps_own t given own ends = absurd (not_true ends)
 ended_here makes_one t given own ends = absurd (not_true ends)
 ended_here (draws_words words) t given own ends = absurd (not_true ends)
+ended_here forks_one t given own ends = absurd (not_true ends)
+ended_here (begins_anew words) t given own ends = absurd (not_true ends)
 ended_here ends_one t given own ends =
     ap (λ b. get (if b then without_thread t own else own).threads t) ends ∙ get-remove-same own.threads t
 
@@ -162,6 +230,8 @@ made_here : (change : OwnChange) (t : ℕ) (given : Answer) (own : ProcessState)
 made_here keeps_own t given own makes = absurd (not_true makes)
 made_here ends_one t given own makes = absurd (not_true makes)
 made_here (draws_words words) t given own makes = absurd (not_true makes)
+made_here forks_one t given own makes = absurd (not_true makes)
+made_here (begins_anew words) t given own makes = absurd (not_true makes)
 made_here makes_one t given own makes =
     ap (λ b. get (if b then with_next_thread own else own).threads (next_thread own)) makes ∙ get-insert-same own.threads (next_thread own) Runnable
 
@@ -170,6 +240,8 @@ free_here : (change : OwnChange) (t : ℕ) (given : Answer) (own : ProcessState)
 free_here keeps_own t given own fresh makes = absurd (not_true makes)
 free_here ends_one t given own fresh makes = absurd (not_true makes)
 free_here (draws_words words) t given own fresh makes = absurd (not_true makes)
+free_here forks_one t given own fresh makes = absurd (not_true makes)
+free_here (begins_anew words) t given own fresh makes = absurd (not_true makes)
 free_here makes_one t given own fresh makes = (fresh makes).1
 
 -- the thread whose call makes one is there
@@ -178,7 +250,25 @@ maker_here : (change : OwnChange) (t : ℕ) (given : Answer) (own : ProcessState
 maker_here keeps_own t given own fresh makes = absurd (not_true makes)
 maker_here ends_one t given own fresh makes = absurd (not_true makes)
 maker_here (draws_words words) t given own fresh makes = absurd (not_true makes)
+maker_here forks_one t given own fresh makes = absurd (not_true makes)
+maker_here (begins_anew words) t given own fresh makes = absurd (not_true makes)
 maker_here makes_one t given own fresh makes = (fresh makes).0
+
+retained_none : (b : Bool) (o : Option Thread) → o ≡ None → cond b o None ≡ None
+retained_none true o none = none
+retained_none false o none = refl
+
+-- another one is there no more, where it ends these
+cleared_here : (change : OwnChange) (t : ℕ) (given : Answer) (own : ProcessState) (u : ℕ) → clears_by change given ≡ true → u ≢ t
+    → get (threads_after change t given own) u ≡ None
+cleared_here keeps_own t given own u clears apart = absurd (not_true clears)
+cleared_here makes_one t given own u clears apart = absurd (not_true clears)
+cleared_here ends_one t given own u clears apart = absurd (not_true clears)
+cleared_here (draws_words words) t given own u clears apart = absurd (not_true clears)
+cleared_here forks_one t given own u clears apart = absurd (not_true clears)
+cleared_here (begins_anew words) t given own u clears apart =
+    ap (λ b. get (if b then begun_anew words t own else own).threads u) clears ∙ retained_here own.threads t u
+    ∙ ap (λ b. cond b (get own.threads u) None) (number_apart u t (λ e. apart (sym e)))
 
 -- one that was not there is the one that it makes
 come_here : (change : OwnChange) (t : ℕ) (given : Answer) (own : ProcessState) (u : ℕ) → get own.threads u ≡ None → IsSome (get (threads_after change t given own) u)
@@ -187,6 +277,16 @@ come_here keeps_own t given own u none some = absurd (not_true (subst IsSome non
 come_here (draws_words words) t given own u none some =
     elim (is_done given) as (λ b. IsSome (get (if b then drawn_more words own else own).threads u) → (false ≡ true) × (u ≡ next_thread own)) [
       | true ↦ λ there. absurd (not_true (subst IsSome none there))
+      | false ↦ λ there. absurd (not_true (subst IsSome none there))
+    ] some
+come_here forks_one t given own u none some =
+    elim (is_done given) as (λ b. IsSome (get (if b then with_next_child own else own).threads u) → (false ≡ true) × (u ≡ next_thread own)) [
+      | true ↦ λ there. absurd (not_true (subst IsSome none there))
+      | false ↦ λ there. absurd (not_true (subst IsSome none there))
+    ] some
+come_here (begins_anew words) t given own u none some =
+    elim (is_done given) as (λ b. IsSome (get (if b then begun_anew words t own else own).threads u) → (false ≡ true) × (u ≡ next_thread own)) [
+      | true ↦ λ there. absurd (not_true (subst IsSome (retained_here own.threads t u ∙ retained_none (u == t) (get own.threads u) none) there))
       | false ↦ λ there. absurd (not_true (subst IsSome none there))
     ] some
 come_here makes_one t given own u none some =
@@ -219,6 +319,8 @@ no_process : (c : OwnChange) (t : ℕ) (given : Answer) → AllowsChange c t giv
 no_process keeps_own t given free makes = not_true makes
 no_process ends_one t given free makes = not_true makes
 no_process (draws_words words) t given free makes = not_true makes
+no_process forks_one t given free makes = not_true makes
+no_process (begins_anew words) t given free makes = not_true makes
 no_process makes_one t given free makes = free makes
 
 -- The threads that are there before and after, where the call has changed the process so and no thread waits.
@@ -227,10 +329,17 @@ module _ (change : OwnChange) (t : ℕ) (given : Answer) where
   After before after = IsChangedBy (own_by change t given) before after
 
   thread_kept : (before after : Option ProcessState) (u : ℕ) → AllowsChange change t given before → After before after → (u ≡ t → ends_by change given ≡ false)
-      → (IsSome (thread_in (threads_in before) u) ⊎ (makes_by change given ≡ false)) → thread_in (threads_in after) u ≡ thread_in (threads_in before) u
-  thread_kept None after u fresh is lasts there = ap (λ o. thread_in (threads_in o) u) is.1
-  thread_kept (Some own) after u fresh is lasts there =
-      ap (λ o. thread_in (threads_in o) u) is.1 ∙ kept_thread change t given own u fresh lasts there
+      → (u ≢ t → clears_by change given ≡ false) → (IsSome (thread_in (threads_in before) u) ⊎ (makes_by change given ≡ false))
+      → thread_in (threads_in after) u ≡ thread_in (threads_in before) u
+  thread_kept None after u fresh is lasts stays there = ap (λ o. thread_in (threads_in o) u) is.1
+  thread_kept (Some own) after u fresh is lasts stays there =
+      ap (λ o. thread_in (threads_in o) u) is.1 ∙ kept_thread change t given own u fresh lasts stays there
+
+  thread_cleared : (before after : Option ProcessState) (u : ℕ) → After before after → clears_by change given ≡ true → u ≢ t
+      → thread_in (threads_in after) u ≡ None
+  thread_cleared None after u is clears apart = ap (λ o. thread_in (threads_in o) u) is.1
+  thread_cleared (Some own) after u is clears apart =
+      ap (λ o. thread_in (threads_in o) u) is.1 ∙ cleared_here change t given own u clears apart
 
   -- the thread that made the call
   caller_kept : (before after : Option ProcessState) → AllowsChange change t given before → After before after → ends_by change given ≡ false
@@ -238,7 +347,7 @@ module _ (change : OwnChange) (t : ℕ) (given : Answer) where
   caller_kept None after fresh is lasts = ap (λ o. thread_in (threads_in o) t) is.1
   caller_kept (Some own) after fresh is lasts =
       ap (λ o. thread_in (threads_in o) t) is.1
-      ∙ kept_thread change t given own t fresh (λ _. lasts)
+      ∙ kept_thread change t given own t fresh (λ _. lasts) (λ apart. absurd (apart refl))
       (elim (makes_by change given) as (λ b. makes_by change given ≡ b → IsSome (get own.threads t) ⊎ (makes_by change given ≡ false)) [
         | true ↦ λ makes. inl (maker_here change t given own fresh makes)
         | false ↦ λ none. inr none
@@ -315,7 +424,9 @@ leaves_threads constants S who call (answer.Reply reply) U T is same =
     record {
       caller = λ lasts. at who.tid ∙ caller_kept change who.tid given before after is.0 is.1 (sym (ends_is call given) ∙ lasts);
       ended = λ ends. at who.tid ∙ thread_ended change who.tid given before after is.1 (sym (ends_is call given) ∙ ends);
-      others = λ u apart there _. at u ∙ thread_kept change who.tid given before after u is.0 is.1 (λ e. absurd (apart e)) (inl there);
+      others = λ u apart there stays.
+          at u ∙ thread_kept change who.tid given before after u is.0 is.1 (λ e. absurd (apart e)) (λ _. sym (clears_is call given) ∙ stays) (inl there);
+      alone = λ clears u apart. at u ∙ thread_cleared change who.tid given before after u is.1 (sym (clears_is call given) ∙ clears) apart;
       made = λ u none some. (
           let come = thread_come change who.tid given before after u is.1 none (subst IsSome (at u) some) in
           (makes_is call given ∙ come.0, come.1, at u ∙ ap (thread_of U who.pid) come.1 ∙ (thread_made change who.tid given before after is.0 is.1 come.0).1));
@@ -331,11 +442,12 @@ leaves_threads constants S who call (answer.Parked writes) U T is same =
     let thread : Thread = waiting constants call who.since in
     let at : (u : ℕ) → thread_of T who.pid u ≡ thread_of (waits_if given who thread U) who.pid u = λ u. ap (λ o. thread_in o u) same in
     let kept : (u : ℕ) → thread_of U who.pid u ≡ thread_of S who.pid u =
-    λ u. thread_kept change who.tid given before after u is.0 is.1 (λ _. parked_ends change writes) (inr (parked_makes change writes)) in
+    λ u. thread_kept change who.tid given before after u is.0 is.1 (λ _. parked_ends change writes) (λ _. parked_clears change writes) (inr (parked_makes change writes)) in
     record {
       caller = λ _. at who.tid ∙ parked_here constants S who call U writes ∙ ap (option_map (λ (was : Thread). thread)) (kept who.tid);
       ended = λ ends. absurd (not_true (sym (parked_ends change writes) ∙ sym (ends_is call given) ∙ ends));
       others = λ u apart there _. at u ∙ parked_apart constants S who call U writes u apart ∙ kept u;
+      alone = λ clears u apart. absurd (not_true (sym (parked_clears change writes) ∙ sym (clears_is call given) ∙ clears));
       made = λ u none some. absurd (some_is_none (thread_of T who.pid u) (at u ∙ parked_none constants S who call U writes u (kept u ∙ none)) some);
       makes = λ makes. absurd (not_true (sym (parked_makes change writes) ∙ sym (makes_is call given) ∙ makes));
     }
@@ -350,52 +462,84 @@ number_if b n = if b then n else 0
 record CountsAfter (change : OwnChange) (given : Answer) (before after : Counts) : Type 0 where
   threads : after.threads ≡ before.threads + number_if (makes_by change given) 1
   words : after.words ≡ before.words + draws_by change given
-  forks : after.forks ≡ before.forks
+  forks : after.forks ≡ before.forks + number_if (bears_by change given) 1
   objects : before.objects ≤ after.objects
 
 counts_done : (change : OwnChange) (t : ℕ) (given : Answer) (own : ProcessState) → CountsAfter change given own.counts (own_by change t given own).counts
-counts_done keeps_own t given own = record { threads = omega arith; words = omega arith; forks = refl; objects = omega arith }
+counts_done keeps_own t given own = record { threads = omega arith; words = omega arith; forks = omega arith; objects = omega arith }
 counts_done makes_one t given own =
     elim (is_done given) as (λ b. is_done given ≡ b → CountsAfter makes_one given own.counts (if b then with_next_thread own else own).counts) [
       | true ↦ λ done. (
           let one : number_if (is_done given) 1 ≡ 1 = ap (λ b. number_if b 1) done in
-          record { threads = omega (arith, one); words = omega arith; forks = refl; objects = omega arith })
+          record { threads = omega (arith, one); words = omega arith; forks = omega arith; objects = omega arith })
       | false ↦ λ isnt. (
           let none : number_if (is_done given) 1 ≡ 0 = ap (λ b. number_if b 1) isnt in
-          record { threads = omega (arith, none); words = omega arith; forks = refl; objects = omega arith })
+          record { threads = omega (arith, none); words = omega arith; forks = omega arith; objects = omega arith })
     ] refl
 counts_done ends_one t given own =
     elim (is_done given) as (λ b. CountsAfter ends_one given own.counts (if b then without_thread t own else own).counts) [
-      | true ↦ record { threads = omega arith; words = omega arith; forks = refl; objects = omega arith }
-      | false ↦ record { threads = omega arith; words = omega arith; forks = refl; objects = omega arith }
+      | true ↦ record { threads = omega arith; words = omega arith; forks = omega arith; objects = omega arith }
+      | false ↦ record { threads = omega arith; words = omega arith; forks = omega arith; objects = omega arith }
     ]
 counts_done (draws_words words) t given own =
     elim (is_done given) as (λ b. is_done given ≡ b → CountsAfter (draws_words words) given own.counts (if b then drawn_more words own else own).counts) [
       | true ↦ λ done. (
           let all : number_if (is_done given) words ≡ words = ap (λ b. number_if b words) done in
-          record { threads = omega arith; words = omega (arith, all); forks = refl; objects = omega arith })
+          record { threads = omega arith; words = omega (arith, all); forks = omega arith; objects = omega arith })
       | false ↦ λ isnt. (
           let none : number_if (is_done given) words ≡ 0 = ap (λ b. number_if b words) isnt in
-          record { threads = omega arith; words = omega (arith, none); forks = refl; objects = omega arith })
+          record { threads = omega arith; words = omega (arith, none); forks = omega arith; objects = omega arith })
+    ] refl
+counts_done forks_one t given own =
+    elim (is_done given) as (λ b. is_done given ≡ b → CountsAfter forks_one given own.counts (if b then with_next_child own else own).counts) [
+      | true ↦ λ done. (
+          let one : number_if (is_done given) 1 ≡ 1 = ap (λ b. number_if b 1) done in
+          record { threads = omega arith; words = omega arith; forks = omega (arith, one); objects = omega arith })
+      | false ↦ λ isnt. (
+          let none : number_if (is_done given) 1 ≡ 0 = ap (λ b. number_if b 1) isnt in
+          record { threads = omega arith; words = omega arith; forks = omega (arith, none); objects = omega arith })
+    ] refl
+counts_done (begins_anew words) t given own =
+    elim (is_done given) as (λ b. is_done given ≡ b → CountsAfter (begins_anew words) given own.counts (if b then begun_anew words t own else own).counts) [
+      | true ↦ λ done. (
+          let all : number_if (is_done given) words ≡ words = ap (λ b. number_if b words) done in
+          record { threads = omega arith; words = omega (arith, all); forks = omega arith; objects = omega arith })
+      | false ↦ λ isnt. (
+          let none : number_if (is_done given) words ≡ 0 = ap (λ b. number_if b words) isnt in
+          record { threads = omega arith; words = omega (arith, none); forks = omega arith; objects = omega arith })
     ] refl
 
 -- a call of no process makes and draws nothing
 counts_of_none : (change : OwnChange) (t : ℕ) (given : Answer) → AllowsChange change t given None → CountsAfter change given no_counts no_counts
-counts_of_none keeps_own t given allows = record { threads = refl; words = refl; forks = refl; objects = omega arith }
-counts_of_none ends_one t given allows = record { threads = refl; words = refl; forks = refl; objects = omega arith }
+counts_of_none keeps_own t given allows = record { threads = refl; words = refl; forks = omega arith; objects = omega arith }
+counts_of_none ends_one t given allows = record { threads = refl; words = refl; forks = omega arith; objects = omega arith }
 counts_of_none makes_one t given allows =
     elim (is_done given) as (λ b. is_done given ≡ b → CountsAfter makes_one given no_counts no_counts) [
       | true ↦ λ done. absurd (allows done)
       | false ↦ λ isnt. (
           let none : number_if (is_done given) 1 ≡ 0 = ap (λ b. number_if b 1) isnt in
-          record { threads = omega (arith, none); words = refl; forks = refl; objects = omega arith })
+          record { threads = omega (arith, none); words = refl; forks = omega arith; objects = omega arith })
     ] refl
 counts_of_none (draws_words words) t given allows =
     elim (is_done given) as (λ b. is_done given ≡ b → CountsAfter (draws_words words) given no_counts no_counts) [
       | true ↦ λ done. absurd (not_true (allows done))
       | false ↦ λ isnt. (
           let none : number_if (is_done given) words ≡ 0 = ap (λ b. number_if b words) isnt in
-          record { threads = refl; words = omega (arith, none); forks = refl; objects = omega arith })
+          record { threads = refl; words = omega (arith, none); forks = omega arith; objects = omega arith })
+    ] refl
+counts_of_none forks_one t given allows =
+    elim (is_done given) as (λ b. is_done given ≡ b → CountsAfter forks_one given no_counts no_counts) [
+      | true ↦ λ done. absurd (not_true (allows done))
+      | false ↦ λ isnt. (
+          let none : number_if (is_done given) 1 ≡ 0 = ap (λ b. number_if b 1) isnt in
+          record { threads = refl; words = refl; forks = omega (arith, none); objects = omega arith })
+    ] refl
+counts_of_none (begins_anew words) t given allows =
+    elim (is_done given) as (λ b. is_done given ≡ b → CountsAfter (begins_anew words) given no_counts no_counts) [
+      | true ↦ λ done. absurd (not_true (allows done))
+      | false ↦ λ isnt. (
+          let none : number_if (is_done given) words ≡ 0 = ap (λ b. number_if b words) isnt in
+          record { threads = refl; words = omega (arith, none); forks = omega arith; objects = omega arith })
     ] refl
 
 counts_changed : (change : OwnChange) (t : ℕ) (given : Answer) (before after : Option ProcessState) → AllowsChange change t given before
@@ -430,7 +574,7 @@ leaves_counts call given p t S T allows left =
     record {
       threads = is.threads ∙ ap (λ b. (counts_in before).threads + number_if b 1) (sym (makes_is call given));
       words = is.words ∙ ap (λ n. (counts_in before).words + n) (sym (draws_is call given));
-      forks = is.forks;
+      forks = is.forks ∙ ap (λ b. (counts_in before).forks + number_if b 1) (sym (bears_is call given));
       objects = is.objects;
     }
 
@@ -450,47 +594,41 @@ pub refusal_of_fails : (call : Call) (table : Option Table) (reply : Reply) → 
 refusal_of_fails call None reply is = ap (λ (r : Reply). is_success r.errno) (sym (same_some (refused Badf) reply is))
 refusal_of_fails call (Some table) reply is = refusal_fails (some_absent table (named call)) (first_lack table (need call)) reply is
 
+-- and its reply tells no child
+refusal_tells_none : (absent : Bool) (lack : Option Denial) (reply : Reply) → cond absent (Some (refused Badf)) (denied_by lack) ≡ Some reply
+    → child_in reply.payload ≡ None
+refusal_tells_none true lack reply is = ap (λ (r : Reply). child_in r.payload) (sym (same_some (refused Badf) reply is))
+refusal_tells_none false None reply is = absurd (none_is_no reply is)
+refusal_tells_none false (Some denial) reply is = ap (λ (r : Reply). child_in r.payload) (sym (same_some (denied denial) reply is))
+
+pub refusal_bears : (call : Call) (table : Option Table) (reply : Reply) → refusal_of call table ≡ Some reply → child_in reply.payload ≡ None
+refusal_bears call None reply is = ap (λ (r : Reply). child_in r.payload) (sym (same_some (refused Badf) reply is))
+refusal_bears call (Some table) reply is = refusal_tells_none (some_absent table (named call)) (first_lack table (need call)) reply is
+
 -- a call that is not done asks nothing of its process
 pub undone_allows : (change : OwnChange) (t : ℕ) (given : Answer) (before : Option ProcessState) → is_done given ≡ false → AllowsChange change t given before
 undone_allows keeps_own t given before isnt = tt
 undone_allows ends_one t given before isnt = tt
 undone_allows makes_one t given before isnt = λ done. absurd (not_true (sym isnt ∙ done))
 undone_allows (draws_words words) t given before isnt = λ done. absurd (not_true (sym isnt ∙ done))
-
--- ---- proc_exec isn't built yet
-
-exec_fails : (constants : Constants) (S : State) (who : Who) (fd : ℕ) (bytes fds : List ℕ) → Fails (step_answer constants S who (call.ProcExec fd bytes fds))
-exec_fails constants S who fd bytes fds =
-    outcome_holds (λ (o : Outcome). Fails o.answer) constants S who (call.ProcExec fd bytes fds)
-    (λ reply refuses. refusal_of_fails (call.ProcExec fd bytes fds) (get S.tables who.pid) reply refuses) (λ table _. refl)
-
-exec_step_fails : (constants : Constants) (S : State) (who : Who) (fd : ℕ) (bytes fds : List ℕ) (given : Answer) (T : State)
-    → IsStep constants S who (call.ProcExec fd bytes fds) given T → Fails given
-exec_step_fails constants S who fd bytes fds given T (inl done) = subst Fails (sym done.0) (exec_fails constants S who fd bytes fds)
-exec_step_fails constants S who fd bytes fds given T (inr lacking) = subst Fails (sym lacking.1) refl
-
-not_done : (given : Answer) → Fails given → is_done given ≡ false
-not_done (answer.Parked writes) fails = absurd fails
-not_done (answer.Reply reply) fails = fails
-
-pub keeps_others : (constants : Constants) (S : State) (who : Who) (call : Call) (given : Answer) (T : State) → IsStep constants S who call given T
-    → ends_others call given ≡ false
-keeps_others constants S who (call.ProcExec fd bytes fds) given T step = not_done given (exec_step_fails constants S who fd bytes fds given T step)
-keeps_others constants S who _ given T step = refl
+undone_allows forks_one t given before isnt = λ done. absurd (not_true (sym isnt ∙ done))
+undone_allows (begins_anew words) t given before isnt = λ done. absurd (not_true (sym isnt ∙ done))
 
 -- ---- calls in which a thread may wait
 
 -- such a call draws no random words
 pub waited_draws : (call : Call) (given : Answer) → may_wait call ≡ true → words_drawn call given ≡ 0
 waited_draws (call.RandomGet length) given may = absurd (not_true may)
+waited_draws (call.ProcExec fd bytes fds) given may = absurd (not_true may)
 waited_draws _ given may = refl
 
--- and makes and ends no thread
+-- and makes and ends no thread, and no child
 pub waited_keeps : (call : Call) (given : Answer) → may_wait call ≡ true
-    → (ends_caller call given ≡ false) × (ends_others call given ≡ false) × (makes_thread call given ≡ false)
-waited_keeps (call.Poll subscriptions) given may = (refl, refl, refl)
-waited_keeps (call.MemMap place length prot flags fd offset) given may = (refl, refl, refl)
+    → (ends_caller call given ≡ false) × (ends_others call given ≡ false) × (makes_thread call given ≡ false) × (makes_child call given ≡ false)
+waited_keeps (call.Poll subscriptions) given may = (refl, refl, refl, refl)
+waited_keeps (call.MemMap place length prot flags fd offset) given may = (refl, refl, refl, refl)
 waited_keeps (call.ThreadCreate attributes) given may = absurd (not_true may)
 waited_keeps (call.ThreadExit lock word scope) given may = absurd (not_true may)
 waited_keeps (call.ProcExec fd bytes fds) given may = absurd (not_true may)
-waited_keeps _ given may = (refl, refl, refl)
+waited_keeps (call.ProcFork left) given may = absurd (not_true may)
+waited_keeps _ given may = (refl, refl, refl, refl)

@@ -12,7 +12,7 @@ use Rattle.abi_types.specs.declared.status.Status.{Status}
 use Rattle.abi_types.specs.declared.status.Status.TheVariants.{Live, Killed}
 use Rattle.abi_types.specs.declared.who.Who.{Who}
 use Rattle.kernel_model.specs.Calls.{meaning_of, refusal}
-use Rattle.kernel_model.specs.Families.Numbers.{new_parts}
+use Rattle.kernel_model.specs.OwnChanges.{made_parts}
 use Rattle.kernel_model.specs.Laws.{IsLeftBy}
 use Rattle.kernel_model.specs.Outcome.{Outcome}
 use Rattle.kernel_model.specs.Families.ProcessCalls.{ended_process, end_updates}
@@ -39,7 +39,7 @@ use Rattle.kernel_model.proofs.Valids.{get_released, released_stays}
 
 unless_unset : (constants : Constants) (S : State) (who : Who) (table : Table) (call : Call) (r : Option Reply) (q : Part)
     → has_part (process_parts who.pid
-    ++ (unless_refused r (new_parts who.pid (meaning_of call).numbers (get S.processes who.pid)) ++ unless_refused r ((meaning_of call).touched S table))) q ≡ false
+    ++ (unless_refused r (made_parts (meaning_of call).own who.pid (meaning_of call).numbers (get S.processes who.pid)) ++ unless_refused r ((meaning_of call).touched S table))) q ≡ false
     → IsUnset (unless r ((meaning_of call).effect constants (whole (tick S)) who table)) q
 unless_unset constants S who table call (Some reply) q h = refl
 unless_unset constants S who table call None q h = (proper call).sets constants S who table q h

@@ -174,7 +174,7 @@ behind_after S u after (File q offset flags) h = after.files q h
 behind_after S u after (Directory q flags) h = after.directories q h
 behind_after S u after (End reads writes flags) h = h
 behind_after S u after (Terminal which flags) h = h
-behind_after S u after (Process p) h = h
+behind_after S u after (Process p object) h = h
 
 pub with_tree_nearly_valid : (S : State) (u : Tree) → IsTreeAfter S u → IsNearlyValid S → IsNearlyValid (with_tree u S)
 with_tree_nearly_valid S u after v = record {

@@ -223,7 +223,7 @@ behind_same S T nodes more chans made (File node offset flags) h = ap is_file_no
 behind_same S T nodes more chans made (Directory node flags) h = ap is_directory_node (nodes node) ∙ h
 behind_same S T nodes more chans made (End reads writes flags) h =
     (h.0, reader_same S.chans T.chans chans reads h.1, writer_same S.chans T.chans chans writes h.2)
-behind_same S T nodes more chans made (Process p) h = (made p h.0, h.1)
+behind_same S T nodes more chans made (Process p object) h = (made p h.0, h.1)
 
 -- ---- the nodes that stay
 
@@ -326,7 +326,7 @@ released_behind S o (Directory node flags) sole there before h =
     (open_is_kept (without_ended S) o node (Directory node flags) there (one_for-same node))) ∙ h
 released_behind S o (End reads writes flags) sole there before h =
     (h.0, left_reader S o reads writes flags sole there before h.1, left_writer S o reads writes flags sole there before h.2)
-released_behind S o (Process p) sole there before h = (left_made S p h.0, h.1)
+released_behind S o (Process p object) sole there before h = (left_made S p h.0, h.1)
 
 -- a node that is left stays still
 pub released_kept : (S : State) (n : ℕ) → IsSome (get (release S).nodes n) → is_node_kept (release S) n ≡ true

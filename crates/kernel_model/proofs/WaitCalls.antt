@@ -70,7 +70,7 @@ clock_poll_is_proper userdata clock timeout flags = record {
       (inr (refl, inl refl)) (inl (refl, refl));
   waits = λ _. clock_is_patient userdata clock timeout flags;
   lacks = λ _. tt;
-  others = λ constants v who table q apart.
+  others = λ constants v who table q apart _.
       clock_holds (λ o. IsUnset o (at_proc q) × IsUnset o (at_status q)) (is_due v.clock (soon (Some (clock_deadline constants who.since clock timeout flags)))) userdata
       (refl, refl) (refl, refl);
   own = λ constants S who table.

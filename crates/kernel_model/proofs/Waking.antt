@@ -7,6 +7,7 @@
 --     step_deadlines, wake_deadlines, end_deadlines      deadlines are kept
 use Rattle.std.proofs.Common.{◌≡◌, ◌≢◌, ◌⊎◌, ℕ, ◌+◌, Bool, true, false, not, inl, inr, Option, Some, None, IsSome, is_some, refl, sym, ap, subst, ◌∙◌, arith}
 use Rattle.std.proofs.lemmas.Bool.Decides.{eqb_tells}
+use Rattle.std.specs.Prelude.{if◌then◌else◌}
 use Rattle.std.specs.Option.{option_map}
 use Rattle.std.specs.Ordering.{nat_cmp}
 use Rattle.std.specs.FinMap.{get, get-empty, empty}
@@ -29,11 +30,12 @@ use Rattle.kernel_model.specs.Calls.{meaning_of}
 use Rattle.kernel_model.specs.Families.ProcessCalls.{ended_process}
 use Rattle.kernel_model.specs.Laws.{HasSameProcess, IsKilled, MovesOnly}
 use Rattle.kernel_model.specs.Outcome.{is_parked}
+use Rattle.kernel_model.specs.OwnChanges.{next_child}
 use Rattle.kernel_model.specs.Reply.{refused}
 use Rattle.kernel_model.specs.State.{State, ProcessState, Part, Threads, counts_in, has_part, Agree, threads_of, thread_in, thread_of}
 use Rattle.kernel_model.specs.Release.{ends, is_killed, process_left}
 use Rattle.kernel_model.specs.Step.{tick, end_state, end_unreleased, step_answer, step_state, touch, IsStep, IsUntouched}
-use Rattle.kernel_model.specs.Threads.{ends_caller, ends_others, makes_thread, IsCallerAfter, LeavesCounts, LeavesThreads}
+use Rattle.kernel_model.specs.Threads.{child_made, ends_caller, ends_others, makes_child, makes_thread, IsCallerAfter, LeavesCounts, LeavesThreads}
 use Rattle.kernel_model.specs.Valid.{IsValid}
 use Rattle.kernel_model.specs.WaitLaws.{ResumesOnly, WakesOnly}
 use Rattle.kernel_model.specs.Waits.{resumed, waiting, HasDeadline, HasDeadlines, MayWait, WaitsIn}
@@ -44,9 +46,9 @@ use Rattle.kernel_model.proofs.Parts.{agree_through}
 use Rattle.kernel_model.proofs.Readiness.{done_stays, ready_is}
 use Rattle.kernel_model.proofs.Refusals.{error_keeps}
 use Rattle.kernel_model.proofs.Steps.{end_ends_only, step_keeps_made, step_keeps_valid, step_moves_only}
-use Rattle.kernel_model.proofs.Tests.{none_is_no, not_true}
+use Rattle.kernel_model.proofs.Tests.{none_is_no, not_true, same_some}
 use Rattle.kernel_model.proofs.Threading.{each_of, thread_apart, thread_here, with_apart, with_counts, with_keeps, with_valid}
-use Rattle.kernel_model.proofs.Threads.{keeps_others, leaves_counts, undone_allows, undone_stays, waited_keeps}
+use Rattle.kernel_model.proofs.Threads.{leaves_counts, undone_allows, undone_stays, waited_keeps}
 use Rattle.kernel_model.proofs.Touches.{others_stay, outside_own, tick_keeps, outside_clock}
 use Rattle.kernel_model.proofs.EndedValid.{threads_at}
 use Rattle.kernel_model.proofs.Valids.{tick_valid}
@@ -125,7 +127,8 @@ resumed_moves : (constants : Constants) (S : State) (who : Who) (call : Call) (a
     → MovesOnly constants (resumed S who) who call answered T → WakesOnly S who call answered T
 resumed_moves constants S who call answered T replied moves = record {
   clock = moves.clock;
-  others = λ q apart. others_through S (resumed S who) T q (resumed_other S who q apart) (moves.others q apart);
+  others = λ childless q apart. others_through S (resumed S who) T q (resumed_other S who q apart) (moves.others q apart
+      (λ is. none_is_no q (sym (ap (λ b. if b then next_child who.pid (get (resumed S who).processes who.pid) else None) childless) ∙ is)));
   runs = λ live there lasts.
       replied_caller (waiting constants call who.since) answered (thread_of (resumed S who) who.pid who.tid) (thread_of T who.pid who.tid) replied
       ((moves.threads live).caller lasts) ∙ runs_there S who there;
@@ -161,7 +164,7 @@ wake_moves_only constants S who call (wake.Plain word) answered T is =
 wake_moves_only constants S who call wake.Fault answered T is =
     subst (WakesOnly S who call answered) (sym is.1) (record {
       clock = refl;
-      others = λ q apart. inl (resumed_other S who q apart);
+      others = λ childless q apart. inl (resumed_other S who q apart);
       runs = λ live there lasts. runs_there S who there;
       threads = λ live t apart there lasts. thread_apart S who.pid who.tid Runnable t apart;
       made = λ live t none there. absurd (not_true (subst IsSome (none_resumed S who t none) there));
@@ -170,7 +173,7 @@ wake_moves_only constants S who call wake.Fault answered T is =
 
 -- what waits waits in a call in which it may, so its wake makes and ends no thread
 pub wake_keeps : (S : State) (who : Who) (call : Call) (answered : Answer) → IsValid S → WaitsIn S who call
-    → (ends_caller call answered ≡ false) × (ends_others call answered ≡ false) × (makes_thread call answered ≡ false)
+    → (ends_caller call answered ≡ false) × (ends_others call answered ≡ false) × (makes_thread call answered ≡ false) × (makes_child call answered ≡ false)
 wake_keeps S who call answered valid kept = waited_keeps call answered (subst MayWait kept.1 (valid.nearly.waits who.pid who.tid))
 
 pub resumed_valid : (S : State) (who : Who) → IsValid S → IsValid (resumed S who)
@@ -254,7 +257,11 @@ other_after constants S who call given T step valid t apart =
           elim (thread_of S who.pid t) as (λ o. thread_of S who.pid t ≡ o
           → ((thread_of T who.pid t ≡ None) ⊎ (thread_of T who.pid t ≡ Some Runnable)) ⊎ (thread_of T who.pid t ≡ thread_of S who.pid t)) [
             | None ↦ λ e. inl (comes_or_not constants S who call given T leaves t e (thread_of T who.pid t) refl)
-            | Some thread ↦ λ e. inr (leaves.others t apart (ap is_some e) (keeps_others constants S who call given T step))
+            | Some thread ↦ λ e. elim (ends_others call given) as (λ b. ends_others call given ≡ b
+                → ((thread_of T who.pid t ≡ None) ⊎ (thread_of T who.pid t ≡ Some Runnable)) ⊎ (thread_of T who.pid t ≡ thread_of S who.pid t)) [
+                  | true ↦ λ clears. inl (inl (leaves.alone clears t apart))
+                  | false ↦ λ stays. inr (leaves.others t apart (ap is_some e) stays)
+                ] refl
           ] refl)
       | inr dead ↦ inl (inl (ended_thread T who.pid t (get T.statuses who.pid) valid refl dead))
     ]
@@ -273,6 +280,15 @@ caller_after constants S who call given T step valid =
             | false ↦ λ lasts. inr (leaves.caller lasts)
           ] refl)
       | inr dead ↦ inl (ended_thread T who.pid who.tid (get T.statuses who.pid) valid refl dead)
+    ]
+
+-- the process is the child, or it is not
+pub same_child : (p : ℕ) (child : Option ℕ) → (child ≡ Some p) ⊎ (child ≢ Some p)
+same_child p None = inr (λ is. none_is_no p is)
+same_child p (Some q) =
+    elim (eqb_tells q p) [
+      | inl is ↦ inl (ap Some is.1)
+      | inr other ↦ inr (λ is. other.1 (same_some q p is))
     ]
 
 left_threads : (killed : Bool) (o : Option ProcessState) (t : ℕ) → thread_in (threads_in o) t ≡ None
@@ -320,7 +336,15 @@ module _ (P : ℕ → ℕ → Option Thread → Type 0) (none : (p t : ℕ) → 
             | inr stays ↦ subst (P who.pid t) (sym stays) (before who.pid t)
           ]
         ])
-        | inr other ↦ other_thread S T p t ((step_moves_only constants S who call given T step).others p other.1) (before p t)
+        | inr other ↦ (
+            let moves = step_moves_only constants S who call given T step in
+            elim (same_child p (child_made call given who.pid (get S.processes who.pid))) [
+              | inl born ↦ elim (moves.born p born t) [
+                | inl gone ↦ subst (P p t) (sym gone) (none p t)
+                | inr made ↦ subst (P p t) (sym made) (runs p t)
+              ]
+              | inr unborn ↦ other_thread S T p t (moves.others p other.1 unborn) (before p t)
+            ])
       ]
 
   pub end_each : (S : State) (p : ℕ) (status : Status) → status ≢ Live → IsValid S → ((q t : ℕ) → P q t (thread_of S q t))

@@ -16,7 +16,8 @@ use Rattle.kernel_model.specs.Families.NameMoving.{file_link, file_rename}
 use Rattle.kernel_model.specs.Families.NameRemoving.{file_unlink}
 use Rattle.kernel_model.specs.Families.Opening.{file_open}
 use Rattle.kernel_model.specs.Families.MemoryCalls.{decided, mem_map}
-use Rattle.kernel_model.specs.Families.ProcessCalls.{proc_exec, proc_exit, proc_fork, proc_raise, thread_create, thread_exit, thread_yield}
+use Rattle.kernel_model.specs.Families.ForkCalls.{proc_exec, proc_fork}
+use Rattle.kernel_model.specs.Families.ProcessCalls.{proc_exit, proc_raise, thread_create, thread_exit, thread_yield}
 use Rattle.kernel_model.specs.Families.SocketCalls.{fd_create1, fd_create2, sock_recv, sock_send, sock_shutdown}
 use Rattle.kernel_model.specs.Families.StreamCalls.{fd_read, fd_seek, fd_write}
 use Rattle.kernel_model.specs.Families.WaitCalls.{condvar_signal, lock_unlock, poll}
@@ -63,8 +64,8 @@ meaning_of (call.Memory number errno) = decided errno
 meaning_of (call.Poll subscriptions) = poll subscriptions
 meaning_of (call.ProcExec fd bytes fds) = proc_exec fd fds
 meaning_of (call.ProcExit code) = proc_exit code
-meaning_of (call.ProcFork left) = proc_fork
-meaning_of (call.ProcRaise signal) = proc_raise
+meaning_of (call.ProcFork left) = proc_fork left
+meaning_of (call.ProcRaise signal) = proc_raise signal
 meaning_of (call.RandomGet length) = random_get length
 meaning_of (call.SockRecv fd length fds flags) = sock_recv fd length fds flags
 meaning_of (call.SockSend fd bytes fds flags) = sock_send fd bytes fds

@@ -28,3 +28,4 @@ pub mod StreamCalls
 pub mod MemoryCalls
 pub mod FileCalls
 pub mod ProcessCalls
+pub mod ForkCalls

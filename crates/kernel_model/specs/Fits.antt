@@ -21,7 +21,7 @@ fits (kind.File node offset flags) = rights_of type.File
 fits (kind.Directory node flags) = rights_of type.Directory
 fits (kind.End reads writes flags) = rights_of (end_type reads writes)
 fits (kind.Terminal which flags) = stream_rights which
-fits (kind.Process p) = rights_of type.Process
+fits (kind.Process p object) = rights_of type.Process
 
 abbrev pub fits_inheriting : OpenKind → ℕ
 fits_inheriting (kind.Directory node flags) = inheriting_of type.Directory

@@ -30,7 +30,7 @@ use Rattle.tree_model.specs.Grants.{MayBegin}
 use Rattle.kernel_model.specs.Start.{start_state}
 use Rattle.kernel_model.specs.State.{State, Tree, Table, Part, at_proc, at_status, at_open, at_node, at_names, at_chan, counts_in, has_part, Agree, AgreeOn}
 use Rattle.kernel_model.specs.Step.{made_by, tick, sight, touch, outcome_by, outcome, outside, outside_by, unreleased, step_answer, step_state, failed, MayLackMemory, IsStep, IsUntouched, end_unreleased, end_state}
-use Rattle.kernel_model.specs.Threads.{LeavesCounts, LeavesThreads, ends_caller, ends_others, makes_thread}
+use Rattle.kernel_model.specs.Threads.{BearsRunning, LeavesCounts, LeavesThreads, child_made, child_told, ends_caller, ends_others, makes_child, makes_thread}
 use Rattle.kernel_model.specs.Valid.{IsValid}
 use Rattle.kernel_model.specs.View.{whole}
 use Rattle.kernel_model.specs.Waits.{may_wait}
@@ -129,6 +129,8 @@ IsNotThere S (at_open o) = get S.opens o ≡ None
 IsNotThere S (at_node n) = get S.nodes n ≡ None
 IsNotThere S (at_names n) = get S.names n ≡ None
 IsNotThere S (at_chan c) = get S.chans c ≡ None
+IsNotThere S (at_proc p) = (get S.tables p ≡ None) × (get S.processes p ≡ None)
+IsNotThere S (at_status p) = get S.statuses p ≡ None
 IsNotThere S q = ⊥
 
 -- What a call may make isn't there in a valid state, as long as its process can number so many objects.
@@ -165,11 +167,12 @@ HasSameProcess S T q = (get S.tables q ≡ get T.tables q) × (get S.processes q
 abbrev pub IsKilled : State → State → ℕ → Type 0
 IsKilled S T q = IsEnded S T (at_proc q) × IsEnded S T (at_status q)
 
--- A step takes 1000 nanoseconds, changes nothing of other processes but of those that the release after it kills, changes the threads of
--- a process that lives on as its call and its answer say, and counts what the call makes.
+-- A step takes 1000 nanoseconds, changes nothing of other processes but of those that the release after it kills and of the child that its
+-- call makes, changes the threads of a process that lives on as its call and its answer say, and counts what the call makes.
 pub record MovesOnly (constants : Constants) (S : State) (who : Who) (call : Call) (given : Answer) (T : State) : Type 0 where
   pub clock : T.clock ≡ S.clock + 1000
-  pub others : (q : ℕ) → q ≢ who.pid → HasSameProcess T S q ⊎ IsKilled S T q
+  pub others : (q : ℕ) → q ≢ who.pid → child_made call given who.pid (get S.processes who.pid) ≢ Some q → HasSameProcess T S q ⊎ IsKilled S T q
+  pub born : BearsRunning who.pid call given S T
   pub threads : get T.statuses who.pid ≡ Some Live → LeavesThreads constants S who call given T
   pub counts : LeavesCounts call given (counts_in (get S.processes who.pid)) (counts_in (get T.processes who.pid))
 
@@ -178,17 +181,17 @@ StepMovesOnly =
     (constants : Constants) (S : State) (who : Who) (call : Call) (given : Answer) (T : State) → IsStep constants S who call given T
     → MovesOnly constants S who call given T
 
--- No call ends the other threads of its process while that lives on, since proc_exec does not succeed yet.
-abbrev pub OtherThreadsGoOn : Type 0
-OtherThreadsGoOn =
+-- The answer to a fork tells the number of the child that it makes, and no other answer to a call tells one.
+abbrev pub ForkTellsChild : Type 0
+ForkTellsChild =
     (constants : Constants) (S : State) (who : Who) (call : Call) (given : Answer) (T : State) → IsStep constants S who call given T
-    → ends_others call given ≡ false
+    → child_told call given ≡ child_made call given who.pid (get S.processes who.pid)
 
--- A call in which a thread may wait makes no thread and ends none, whatever it answers.
+-- A call in which a thread may wait makes no thread, no child and ends no thread, whatever it answers.
 abbrev pub WaitedKeepsThreads : Type 0
 WaitedKeepsThreads =
     (call : Call) (given : Answer) → may_wait call ≡ true
-    → (ends_caller call given ≡ false) × (ends_others call given ≡ false) × (makes_thread call given ≡ false)
+    → (ends_caller call given ≡ false) × (ends_others call given ≡ false) × (makes_thread call given ≡ false) × (makes_child call given ≡ false)
 
 -- The end of a process from outside takes as long, changes nothing of other processes but of those that the release after it kills,
 -- and leaves it its status.
@@ -209,7 +212,7 @@ abbrev pub KilledByLastOpen : Type 0
 KilledByLastOpen =
     (S : State) (p : ℕ)
     → (is_released S (at_proc p) ≡ true)
-    ↔ ((get S.statuses p ≡ Some Live) × ((o : ℕ) × (member o (ends S) ≡ true) × (get S.opens o ≡ Some (Process p))))
+    ↔ ((get S.statuses p ≡ Some Live) × ((o : ℕ) × (member o (ends S) ≡ true) × (object : ℕ) × (get S.opens o ≡ Some (Process p object))))
 
 -- A channel loses its reader just where an end that reads it ends, and its writer where one does that writes it.
 abbrev pub HungUpByEnd : Type 0

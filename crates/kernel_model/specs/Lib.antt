@@ -28,6 +28,7 @@ pub mod ChildLaws
 pub mod WaitLaws
 pub mod PollLaws
 pub mod ThreadLaws
+pub mod ForkLaws
 pub mod OpenLaws
 pub mod ChannelLaws
 pub mod OpenConditions

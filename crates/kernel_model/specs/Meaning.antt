@@ -73,7 +73,3 @@ unbuilt_naming fds = unbuilt fds [] []
 -- one that needs this of one descriptor
 abbrev pub unbuilt_row : Needed → Meaning
 unbuilt_row row = unbuilt (row.fd ∷ []) (row ∷ []) (row.fd ∷ [])
-
--- one that needs this of one descriptor, and names others behind it
-abbrev pub unbuilt_listing : Needed → List ℕ → Meaning
-unbuilt_listing row fds = unbuilt (row.fd ∷ fds) (row ∷ []) (row.fd ∷ [])

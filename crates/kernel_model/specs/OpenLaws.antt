@@ -82,7 +82,7 @@ IsOfSame (File n offset flags) (File m other_offset other_flags) = n ≡ m
 IsOfSame (Directory n flags) (Directory m other_flags) = n ≡ m
 IsOfSame (End reads writes flags) (End other_reads other_writes other_flags) = (reads ≡ other_reads) × (writes ≡ other_writes)
 IsOfSame (Terminal which flags) (Terminal other other_flags) = which ≡ other
-IsOfSame (Process p) (Process q) = p ≡ q
+IsOfSame (Process p object) (Process q other) = (p ≡ q) × (object ≡ other)
 IsOfSame _ _ = ⊥
 
 -- each open that is there in both states is of the same in both

@@ -15,9 +15,8 @@ use Rattle.kernel_model.specs.Channels.{Channel, Send, carried_of, sends_after, 
 use Rattle.kernel_model.specs.Deadlines.{is_due, soon}
 use Rattle.kernel_model.specs.Meaning.{Meaning}
 use Rattle.kernel_model.specs.Families.ChannelCalls.{picked}
-use Rattle.kernel_model.specs.Families.Numbers.{new_parts}
 use Rattle.kernel_model.specs.Outcome.{Outcome, OnReply, is_parked, replies}
-use Rattle.kernel_model.specs.OwnChanges.{AllowsChange, LeavesOwn}
+use Rattle.kernel_model.specs.OwnChanges.{AllowsChange, LeavesOwn, born_of, made_parts}
 use Rattle.kernel_model.specs.Reply.{denied}
 use Rattle.kernel_model.specs.Sight.{process_parts, reached}
 use Rattle.kernel_model.specs.State.{State, Table, Part, Update, at_proc, at_status, has_part, part_of, put_all, set_chan}
@@ -127,10 +126,10 @@ pub record IsProper (m : Meaning) : Type 0 where
   -- and by what it sees its path leads outside where it does by the whole state
   pub walks : (S : State) (who : Who) (table : Table)
       → m.outside (restrict S (process_parts who.pid ++ reached S table m.seen)) table ≡ m.outside (whole S) table
-  -- it sets no part beside its process's own, the objects that it makes and what it says that it changes, and it sees what it
-  -- changes
+  -- it sets no part beside its process's own, the child and the objects that it makes and what it says that it changes, and it sees
+  -- what it changes
   pub sets : (constants : Constants) (S : State) (who : Who) (table : Table) (part : Part)
-      → has_part (process_parts who.pid ++ (new_parts who.pid m.numbers (get S.processes who.pid) ++ m.touched S table)) part ≡ false
+      → has_part (process_parts who.pid ++ (made_parts m.own who.pid m.numbers (get S.processes who.pid) ++ m.touched S table)) part ≡ false
       → IsUnset (m.effect constants (whole (tick S)) who table) part
   pub touched : (S : State) (table : Table) (part : Part) → has_part (m.touched S table) part ≡ true → has_part (reached S table m.seen) part ≡ true
   -- where its path leads outside it is denied for that alone; else its thread waits, where it may, with nothing set, or its reply
@@ -139,8 +138,8 @@ pub record IsProper (m : Meaning) : Type 0 where
       → OrWaits m.may_wait (m.effect constants v who table) (IsDeniedOutside m.errors (m.outside v table) (m.effect constants v who table))
   pub waits : m.may_wait ≡ true → IsPatient m
   pub lacks : m.takes_memory ≡ true → AllByRecursion (λ errno. errno ≢ Nomem) m.errors
-  -- it sets nothing that another process has of its own
-  pub others : (constants : Constants) (v : View) (who : Who) (table : Table) (q : ℕ) → q ≢ who.pid
+  -- it sets nothing that another process has of its own, but of the child that it makes
+  pub others : (constants : Constants) (v : View) (who : Who) (table : Table) (q : ℕ) → q ≢ who.pid → born_of m.own who.pid (v.process who.pid) ≢ Some q
       → IsUnset (m.effect constants v who table) (at_proc q) × IsUnset (m.effect constants v who table) (at_status q)
   -- of what its process has of its own beside its descriptors it changes what it says; it may number objects, and end
   -- the process; and that allows it.

@@ -52,7 +52,7 @@ is_of_process p (Some (File node offset flags)) = false
 is_of_process p (Some (Directory node flags)) = false
 is_of_process p (Some (End reads writes flags)) = false
 is_of_process p (Some (Terminal which flags)) = false
-is_of_process p (Some (Process q)) = q == p
+is_of_process p (Some (Process q object)) = q == p
 
 -- whether a process with this status lives
 abbrev pub lives : Option Status → Bool

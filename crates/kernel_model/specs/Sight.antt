@@ -28,7 +28,7 @@ behind S (Some (File node offset flags)) = at_node node ∷ []
 behind S (Some (Directory node flags)) = node_parts (below (tree_of S) node)
 behind S (Some (End reads writes flags)) = channel_part reads ++ channel_part writes
 behind S (Some (Terminal which flags)) = at_term which ∷ []
-behind S (Some (Process p)) = at_status p ∷ []
+behind S (Some (Process p object)) = at_status p ∷ []
 
 -- a descriptor's open and what stands behind it
 abbrev pub reached_by : State → Option Descriptor → List Part

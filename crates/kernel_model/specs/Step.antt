@@ -10,9 +10,9 @@ use Rattle.abi_base.specs.declared.errno.Errno.TheVariants.{Badf, Nomem}
 use Rattle.abi_types.specs.declared.status.Status.{Status}
 use Rattle.abi_types.specs.declared.who.Who.{Who}
 use Rattle.kernel_model.specs.Calls.{meaning_of, seen, takes_memory, refusal}
-use Rattle.kernel_model.specs.Families.Numbers.{new_parts}
 use Rattle.kernel_model.specs.Outcome.{Outcome, IsSuccess, replies}
 use Rattle.kernel_model.specs.Families.ProcessCalls.{end_updates}
+use Rattle.kernel_model.specs.OwnChanges.{made_parts}
 use Rattle.kernel_model.specs.Release.{release, is_released}
 use Rattle.kernel_model.specs.Reply.{refused}
 use Rattle.kernel_model.specs.Sight.{process_parts, reached}
@@ -45,10 +45,10 @@ abbrev pub changed : State → Call → Option Table → List Part
 changed S call None = []
 changed S call (Some table) = unless_refused (refusal table call) ((meaning_of call).touched S table)
 
--- the objects that a call may make, where none is absent and no right is missing
+-- the child and the objects that a call may make, where none is absent and no right is missing
 abbrev pub made_on : State → Who → Call → Option Table → List Part
 made_on S who call None = []
-made_on S who call (Some table) = unless_refused (refusal table call) (new_parts who.pid (meaning_of call).numbers (get S.processes who.pid))
+made_on S who call (Some table) = unless_refused (refusal table call) (made_parts (meaning_of call).own who.pid (meaning_of call).numbers (get S.processes who.pid))
 
 abbrev pub made_by : State → Who → Call → List Part
 made_by S who call = made_on S who call (get S.tables who.pid)

@@ -1,5 +1,5 @@
 -- What a call leaves of the threads of its process, and of what the process has made.
-use Rattle.std.specs.Prelude.{◌≡◌, ◌≢◌, ℕ, ◌+◌, ◌≤◌, Bool, true, false, Option, None, Some, IsSome, if◌then◌else◌}
+use Rattle.std.specs.Prelude.{◌≡◌, ◌≢◌, ◌⊎◌, ℕ, ◌+◌, ◌≤◌, Bool, true, false, Option, None, Some, IsSome, if◌then◌else◌}
 use Rattle.std.specs.FinMap.{get}
 use Rattle.std.specs.Option.{option_map}
 use Rattle.clock_random.specs.Random.{words_of}
@@ -9,11 +9,15 @@ use Rattle.abi_types.specs.declared.call.Call.{Call}
 use Rattle.abi_types.specs.declared.call.Call.TheVariants as call
 use Rattle.abi_types.specs.declared.constants.Constants.{Constants}
 use Rattle.abi_types.specs.declared.counts.Counts.{Counts}
+use Rattle.abi_types.specs.declared.reply.Payload.{Payload}
+use Rattle.abi_types.specs.declared.reply.Payload.TheVariants.{Child}
 use Rattle.abi_types.specs.declared.thread.Thread.{Thread}
 use Rattle.abi_types.specs.declared.thread.Thread.TheVariants.{Runnable}
 use Rattle.abi_types.specs.declared.who.Who.{Who}
 pub use Rattle.kernel_model.specs.OwnChanges.{is_success, is_done}
-use Rattle.kernel_model.specs.State.{State, thread_of, counts_in}
+use Rattle.kernel_model.specs.OwnChanges.{next_child}
+use Rattle.kernel_model.specs.Start.{canary_words}
+use Rattle.kernel_model.specs.State.{State, ProcessState, thread_of, counts_in}
 use Rattle.kernel_model.specs.Waits.{waiting}
 
 -- ---- which calls make and end threads, and draw random words
@@ -33,9 +37,15 @@ abbrev pub makes_thread : Call → Answer → Bool
 makes_thread (call.ThreadCreate attributes) given = is_done given
 makes_thread _ given = false
 
--- how many random words the call draws: a random_get that succeeds draws some
+-- whether the call makes a child of its process: a proc_fork that succeeds does
+abbrev pub makes_child : Call → Answer → Bool
+makes_child (call.ProcFork left) given = is_done given
+makes_child _ given = false
+
+-- how many random words the call draws: a random_get that succeeds draws some, and a proc_exec those of the new program's canary
 abbrev pub words_drawn : Call → Answer → ℕ
 words_drawn (call.RandomGet length) given = if is_done given then words_of length else 0
+words_drawn (call.ProcExec fd bytes fds) given = if is_done given then canary_words else 0
 words_drawn _ given = 0
 
 -- ---- the threads after a call
@@ -61,6 +71,8 @@ pub record LeavesThreads (constants : Constants) (S : State) (who : Who) (call :
   pub ended : ends_caller call given ≡ true → thread_of T who.pid who.tid ≡ None
   -- each other thread that was there is what it was, unless the call ends the others
   pub others : (t : ℕ) → t ≢ who.tid → IsSome (thread_of S who.pid t) → ends_others call given ≡ false → thread_of T who.pid t ≡ thread_of S who.pid t
+  -- and where it does that, no other one is there
+  pub alone : ends_others call given ≡ true → (t : ℕ) → t ≢ who.tid → thread_of T who.pid t ≡ None
   -- a thread that was not there was made by the call: it has the next number, and runs
   pub made : (t : ℕ) → thread_of S who.pid t ≡ None → IsSome (thread_of T who.pid t)
       → (makes_thread call given ≡ true) × (t ≡ next_number S who.pid) × (thread_of T who.pid t ≡ Some Runnable)
@@ -74,10 +86,35 @@ pub record LeavesThreads (constants : Constants) (S : State) (who : Who) (call :
 abbrev pub threads_made : Call → Answer → ℕ
 threads_made call given = if makes_thread call given then 1 else 0
 
--- A process has numbered as many threads more as its call makes, and drawn as many random words more as the call draws. It has as many
--- children, and no fewer objects. That it has ended with the call changes none of that.
+-- 1 where the call makes a child, else 0
+abbrev pub children_made : Call → Answer → ℕ
+children_made call given = if makes_child call given then 1 else 0
+
+-- A process has numbered as many threads more as its call makes, drawn as many random words more as the call draws, and counted as many
+-- children more as the call makes. It has made no fewer objects. That it has ended with the call changes none of that.
 pub record LeavesCounts (call : Call) (given : Answer) (before after : Counts) : Type 0 where
   pub threads : after.threads ≡ before.threads + threads_made call given
   pub words : after.words ≡ before.words + words_drawn call given
-  pub forks : after.forks ≡ before.forks
+  pub forks : after.forks ≡ before.forks + children_made call given
   pub objects : before.objects ≤ after.objects
+
+-- ---- the child of a call
+
+-- the number of the child that a call makes which was answered so, by what its process p had of its own
+abbrev pub child_made : Call → Answer → ℕ → Option ProcessState → Option ℕ
+child_made call given p own = if makes_child call given then next_child p own else None
+
+-- a child that the call makes has no thread but such as run
+abbrev pub BearsRunning : ℕ → Call → Answer → State → State → Type 0
+BearsRunning p call given S T =
+    (q : ℕ) → child_made call given p (get S.processes p) ≡ Some q → (t : ℕ) → (thread_of T q t ≡ None) ⊎ (thread_of T q t ≡ Some Runnable)
+
+-- the process whose number a payload has
+abbrev pub child_in : Payload → Option ℕ
+child_in (Child q) = Some q
+child_in _ = None
+
+-- the number of the child that the answer to a call tells
+abbrev pub child_told : Call → Answer → Option ℕ
+child_told (call.ProcFork left) (answer.Reply reply) = child_in reply.payload
+child_told _ _ = None

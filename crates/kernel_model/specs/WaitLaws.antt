@@ -23,7 +23,7 @@ use Rattle.kernel_model.specs.Outcome.{is_parked}
 use Rattle.kernel_model.specs.Start.{start_state}
 use Rattle.kernel_model.specs.State.{State, Part, Tree, at_proc, same_part, Agree, counts_in, thread_of}
 use Rattle.kernel_model.specs.Step.{end_state, outside, step_answer, step_state, tick, IsStep, IsUntouched}
-use Rattle.kernel_model.specs.Threads.{ends_caller, ends_others, makes_thread, next_number, LeavesCounts}
+use Rattle.kernel_model.specs.Threads.{ends_caller, ends_others, makes_child, makes_thread, next_number, LeavesCounts}
 use Rattle.kernel_model.specs.Valid.{IsValid}
 use Rattle.kernel_model.specs.Waits.{may_wait, resumed, waiting, with_thread, HasDeadlines, WaitsIn}
 use Rattle.kernel_model.specs.Wakes.{is_ready, IsWake}
@@ -104,7 +104,7 @@ ResumedSeesSame = (S T : State) (who : Who) (call : Call) → HasSameSight S T w
 -- was not there was made by the call; and the process counts what the call makes.
 pub record WakesOnly (S : State) (who : Who) (call : Call) (answered : Answer) (T : State) : Type 0 where
   pub clock : T.clock ≡ S.clock + 1000
-  pub others : (q : ℕ) → q ≢ who.pid → HasSameProcess T S q ⊎ IsKilled S T q
+  pub others : makes_child call answered ≡ false → (q : ℕ) → q ≢ who.pid → HasSameProcess T S q ⊎ IsKilled S T q
   pub runs : get T.statuses who.pid ≡ Some Live → IsSome (thread_of S who.pid who.tid) → ends_caller call answered ≡ false
       → thread_of T who.pid who.tid ≡ Some Runnable
   pub threads : get T.statuses who.pid ≡ Some Live → (t : ℕ) → t ≢ who.tid → IsSome (thread_of S who.pid t) → ends_others call answered ≡ false
@@ -113,11 +113,11 @@ pub record WakesOnly (S : State) (who : Who) (call : Call) (answered : Answer) (
       → (makes_thread call answered ≡ true) × (t ≡ next_number S who.pid) × (thread_of T who.pid t ≡ Some Runnable)
   pub counts : LeavesCounts call answered (counts_in (get S.processes who.pid)) (counts_in (get T.processes who.pid))
 
--- A thread of a valid state waits in a call that makes and ends none, so no wake makes or ends a thread.
+-- A thread of a valid state waits in a call that makes and ends none, and no child, so no wake makes or ends a thread, or makes a child.
 abbrev pub WakeKeepsThreads : Type 0
 WakeKeepsThreads =
     (S : State) (who : Who) (call : Call) (answered : Answer) → IsValid S → WaitsIn S who call
-    → (ends_caller call answered ≡ false) × (ends_others call answered ≡ false) × (makes_thread call answered ≡ false)
+    → (ends_caller call answered ≡ false) × (ends_others call answered ≡ false) × (makes_thread call answered ≡ false) × (makes_child call answered ≡ false)
 
 abbrev pub WakeMovesOnly : Type 0
 WakeMovesOnly =

@@ -2,7 +2,7 @@
 //! and call.
 ghost use Rattle.kernel_model.specs.ChildLaws.{ChildNumbersAreUnique, DeepestHasNoChild, NextChildIsUnmade, ProcessNumbersAreSmall, ProcessZeroHasDepthZero};
 ghost use Rattle.kernel_model.specs.Laws.{MeaningsAreProper, ReadsSight, SightDecides, StepDecided, SightIsReached, TouchIsSeen, MadeIsNew};
-ghost use Rattle.kernel_model.specs.Laws.{OthersStay, EndKeeps, ErrorKeeps, StepMovesOnly, OtherThreadsGoOn, WaitedKeepsThreads, EndStateEndsOnly, EndsAreLeast, EndsInAnyOrder, KilledByLastOpen};
+ghost use Rattle.kernel_model.specs.Laws.{OthersStay, EndKeeps, ErrorKeeps, StepMovesOnly, ForkTellsChild, WaitedKeepsThreads, EndStateEndsOnly, EndsAreLeast, EndsInAnyOrder, KilledByLastOpen};
 ghost use Rattle.kernel_model.specs.Laws.{EndCarriesNothing, WaitingWasHeld, HungUpByEnd, ReleaseEnds, ChannelsAreLeft, NothingUnheldIsLeft};
 ghost use Rattle.kernel_model.specs.Laws.{FirstLackIsNamed, DenialIsOfFirstLack, NotcapableIsDenied, OutsideIsDenied, OutsideReadsSight};
 ghost use Rattle.kernel_model.specs.Laws.{RepliesAreListed, NoMemoryIsExact, ErrorsAreExact, AbsentIsBadf, LackIsDenied, LeavingIsDenied};
@@ -64,11 +64,14 @@ pub fn steps_move_only()
     ensures end { EndStateEndsOnly }
 {}
 
-/// No call ends the other threads of its process while that lives on, since proc_exec does not succeed yet. A call in which a thread
-/// may wait makes no thread and ends none.
-pub fn other_threads_go_on()
-    ensures others { OtherThreadsGoOn }
-    ensures waited { WaitedKeepsThreads }
+/// The answer to a fork that succeeds tells the number of the child that it makes, the next of its process, and no other answer tells one.
+pub fn forks_tell_child()
+    ensures { ForkTellsChild }
+{}
+
+/// A call in which a thread may wait makes no thread and no child, and ends no thread.
+pub fn waited_keeps_threads()
+    ensures { WaitedKeepsThreads }
 {}
 
 /// The opens that a release ends are the least set that has each open which nothing holds once the set has ended. With an open

@@ -4,6 +4,7 @@
 
 mod call_bounds;
 mod channel_laws;
+mod fork_laws;
 pub mod laws;
 mod open_laws;
 mod poll_laws;
@@ -14,12 +15,13 @@ pub use call_bounds::calls_keep_bounds;
 pub use channel_laws::{
     channels_go_on, reads_take_sends, received_as_sent, sends_are_counted, sends_stand_last,
 };
+pub use fork_laws::{execs_begin_listed, forks_make_child};
 pub use laws::{
     child_numbers_are_unique, end_keeps, end_keeps_valid, ends_are_least, error_keeps,
-    errors_are_exact, meanings_are_proper, next_child_is_unmade, other_threads_go_on, others_stay,
+    errors_are_exact, forks_tell_child, meanings_are_proper, next_child_is_unmade, others_stay,
     process_numbers_are_small, reads_sight, refusal_names_lack, refusals_come_first,
     replies_are_listed, sight_decides, sight_is_reached, start_is_valid, step_decided,
-    step_keeps_valid, steps_move_only, waiting_was_held,
+    step_keeps_valid, steps_move_only, waited_keeps_threads, waiting_was_held,
 };
 pub use open_laws::{open_is_listed, opens_lead_below};
 pub use poll_laws::polls_await_clocks;

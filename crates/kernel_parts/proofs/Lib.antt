@@ -12,3 +12,4 @@ pub mod Parked
 pub mod Polling
 pub mod Threads
 pub mod OwnCalls
+pub mod Holding

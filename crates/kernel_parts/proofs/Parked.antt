@@ -86,7 +86,7 @@ module _ (S : State) where
   read_parks fd n o (Some (End None writes flags)) = refl
   read_parks fd n o (Some (End (Some c) writes flags)) = refl
   read_parks fd n o (Some (Terminal which flags)) = from_term n which (get S.terms which)
-  read_parks fd n o (Some (Process p)) = refl
+  read_parks fd n o (Some (Process p object)) = refl
 
   read_at : (fd n : ℕ) (d : Option Descriptor)
       → is_parked (at_descriptor (read_open (whole S) n) (whole S) d).answer ≡ is_parked (end_at S.chans (open_in S.opens d) (call.FdRead fd n)).answer
@@ -126,7 +126,7 @@ module _ (S : State) where
   write_parks fd now o bytes (Some (Directory node flags)) = refl
   write_parks fd now o bytes (Some (End reads writes flags)) = write_end fd now o bytes reads writes flags
   write_parks fd now o bytes (Some (Terminal which flags)) = to_term bytes which (get S.terms which)
-  write_parks fd now o bytes (Some (Process p)) = refl
+  write_parks fd now o bytes (Some (Process p object)) = refl
 
   write_at : (fd now : ℕ) (bytes : List ℕ) (d : Option Descriptor)
       → is_parked (at_descriptor (write_open now (whole S) bytes) (whole S) d).answer
@@ -150,7 +150,7 @@ module _ (S : State) where
   send_parks fd bytes fds flags table (Some (End (Some r) None mode)) = refl
   send_parks fd bytes fds flags table (Some (End (Some r) (Some w) mode)) = send_end fd bytes fds flags r w mode table
   send_parks fd bytes fds flags table (Some (Terminal which mode)) = refl
-  send_parks fd bytes fds flags table (Some (Process p)) = refl
+  send_parks fd bytes fds flags table (Some (Process p object)) = refl
 
   send_at : (fd : ℕ) (bytes fds : List ℕ) (flags : ℕ) (table : Table) (d : Option Descriptor)
       → is_parked (at_descriptor (λ o. send_open (whole S) bytes (picked table fds)) (whole S) d).answer
@@ -191,7 +191,7 @@ module _ (S : State) where
   receive_parks fd p n room flags table (Some (End (Some r) None mode)) = refl
   receive_parks fd p n room flags table (Some (End (Some r) (Some w) mode)) = receive_alike p 0 n room flags r table (is_nonblocking mode) (get S.chans r)
   receive_parks fd p n room flags table (Some (Terminal which mode)) = refl
-  receive_parks fd p n room flags table (Some (Process q)) = refl
+  receive_parks fd p n room flags table (Some (Process q object)) = refl
 
   receive_at : (fd p n room flags : ℕ) (table : Table) (d : Option Descriptor)
       → is_parked (at_descriptor (λ o. receive_open p table (whole S) n room flags) (whole S) d).answer
@@ -236,7 +236,7 @@ module _ (constants : Constants) (opens : FinMap nat_cmp OpenKind) (channels : F
   no_seek (Some (Directory node flags)) fd bits whence = refl
   no_seek (Some (End reads writes flags)) fd bits whence = refl
   no_seek (Some (Terminal which flags)) fd bits whence = refl
-  no_seek (Some (Process p)) fd bits whence = refl
+  no_seek (Some (Process p object)) fd bits whence = refl
 
   pub offset_parks : (view : OffsetCall) → parks constants opens channels now table since (call_of_offset view)
       ≡ is_parked (end_at channels (open_in opens (get table (fd_of_offset view))) (call_of_offset view)).answer
@@ -252,7 +252,7 @@ module _ (constants : Constants) (opens : FinMap nat_cmp OpenKind) (channels : F
   no_shutdown (Some (End (Some r) None flags)) fd how = refl
   no_shutdown (Some (End (Some r) (Some w) flags)) fd how = refl
   no_shutdown (Some (Terminal which flags)) fd how = refl
-  no_shutdown (Some (Process p)) fd how = refl
+  no_shutdown (Some (Process p object)) fd how = refl
 
   pub socket_parks : (view : SocketCall) → parks constants opens channels now table since (call_of_socket view)
       ≡ is_parked (socket_at 0 table channels (open_in opens (get table (fd_of_socket view))) (call_of_socket view)).answer
@@ -311,6 +311,9 @@ module _ (constants : Constants) (opens : FinMap nat_cmp OpenKind) (channels : F
   other_parks c (family.Random length) is polls offsets sockets = subst Never (sym is) refl
   other_parks c (family.NewThread attributes) is polls offsets sockets = subst Never (sym is) refl
   other_parks c (family.ThreadExit lock word scope) is polls offsets sockets = subst Never (sym is) refl
+  other_parks c (family.Fork left) is polls offsets sockets = subst Never (sym is) refl
+  other_parks c (family.Exec fd fds) is polls offsets sockets = subst Never (sym is.1) refl
+  other_parks c (family.Raise signal) is polls offsets sockets = subst Never (sym is) refl
   other_parks c (family.Answered errno) is polls offsets sockets =
       never_by c (λ x. is_some (answer_of x)) (ap is_some is) (λ subscriptions. refl) (λ fd n. refl) (λ fd bytes. refl) (λ fd n room flags. refl)
       (λ fd bytes fds flags. refl)

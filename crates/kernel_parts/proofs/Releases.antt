@@ -110,7 +110,7 @@ no_side (File node offset flags) c n = (refl, refl)
 no_side (Directory node flags) c n = (refl, refl)
 no_side (End reads writes flags) c n = absurd (n reads writes flags refl)
 no_side (Terminal which flags) c n = (refl, refl)
-no_side (Process p) c n = (refl, refl)
+no_side (Process p object) c n = (refl, refl)
 
 -- the channels once that open has ended, where those that are over stay
 abbrev sides_left : OpenKind → FinMap nat_cmp Channel → FinMap nat_cmp Channel
@@ -137,12 +137,12 @@ module _ (C : State) (o : ℕ) where
         ∙ (λ i. option_map (channel_left (sym (no_side kind c none).0 i) (sym (no_side kind c none).1 i)) (get C.chans c)) ∙ loses_then c)
 
   -- an open of a process goes
-  pub without_process : (p : ℕ) (tables : FinMap nat_cmp Table) (processes : FinMap nat_cmp ProcessState) (statuses : FinMap nat_cmp Status)
-      → get C.opens o ≡ Some (Process p) → ((q : ℕ) → is_some (get C.tables q) ≡ is_some (get C.statuses q))
+  pub without_process : (p object : ℕ) (tables : FinMap nat_cmp Table) (processes : FinMap nat_cmp ProcessState) (statuses : FinMap nat_cmp Status)
+      → get C.opens o ≡ Some (Process p object) → ((q : ℕ) → is_some (get C.tables q) ≡ is_some (get C.statuses q))
       → ((q : ℕ) → is_some (get C.processes q) ≡ is_some (get C.statuses q))
       → IsKilledIn p C.tables C.processes C.statuses tables processes statuses
       → record C { tables = tables; processes = processes; statuses = statuses; opens = remove C.opens o } ≡ without (o ∷ []) C
-  without_process p tables processes statuses there all_tables all_own is =
+  without_process p object tables processes statuses there all_tables all_own is =
       let b : Bool = lives (get C.statuses p) in
       let kills : (q : ℕ) → is_killed C (o ∷ []) q ≡ (((p == q) || false) && lives (get C.statuses q)) =
       λ q. ap (λ kind. (is_of_process q kind || false) && lives (get C.statuses q)) there in
@@ -150,7 +150,7 @@ module _ (C : State) (o : ℕ) where
       let others : (q : ℕ) → q ≢ p → is_killed C (o ∷ []) q ≡ false =
       λ q apart. kills q ∙ ap (λ c. (c || false) && lives (get C.statuses q)) (other_number p q apart) in
       let some : b ≡ true → is_some (get C.statuses p) ≡ true = lives_some (get C.statuses p) in
-      let chans : C.chans ≡ (without (o ∷ []) C).chans = chans_then (Process p) there (λ reads writes flags e. cc) in
+      let chans : C.chans ≡ (without (o ∷ []) C).chans = chans_then (Process p object) there (λ reads writes flags e. cc) in
       let first : tables ≡ (without (o ∷ []) C).tables =
       is.left_tables ∙ put_left C.tables table_left empty p b (is_killed C (o ∷ [])) here others same_table
       (λ alive. emptied (get C.tables p) (all_tables p ∙ some alive)) in
@@ -166,7 +166,7 @@ module _ (C : State) (o : ℕ) where
       other_number a c apart = elim (eqb_tells a c) [ inl same ↦ absurd (apart (sym same.1)) | inr other ↦ other.0 ]
 
   -- an open that is of no process goes
-  goes_alone : (kind : OpenKind) (chans : FinMap nat_cmp Channel) → get C.opens o ≡ Some kind → ((p : ℕ) → kind ≢ Process p)
+  goes_alone : (kind : OpenKind) (chans : FinMap nat_cmp Channel) → get C.opens o ≡ Some kind → ((p object : ℕ) → kind ≢ Process p object)
       → chans ≡ (without (o ∷ []) C).chans → record C { opens = remove C.opens o; chans = chans } ≡ without (o ∷ []) C
   goes_alone kind chans there apart left =
       let none : (q : ℕ) → is_killed C (o ∷ []) q ≡ false =
@@ -177,20 +177,20 @@ module _ (C : State) (o : ℕ) where
       let third : C.statuses ≡ (without (o ∷ []) C).statuses = same_numbers _ _ (λ q. sym (status_spared C (o ∷ []) q (none q))) in
       λ i. record C { tables = first i; processes = second i; statuses = third i; opens = opens_then i; chans = left i }
     where
-      no_process : (k : OpenKind) (q : ℕ) → ((p : ℕ) → k ≢ Process p) → is_of_process q (Some k) ≡ false
+      no_process : (k : OpenKind) (q : ℕ) → ((p object : ℕ) → k ≢ Process p object) → is_of_process q (Some k) ≡ false
       no_process (File node offset flags) q n = refl
       no_process (Directory node flags) q n = refl
       no_process (End reads writes flags) q n = refl
       no_process (Terminal which flags) q n = refl
-      no_process (Process p) q n = absurd (n p refl)
+      no_process (Process p object) q n = absurd (n p object refl)
 
   -- an end goes
-  pub without_end : (kind : OpenKind) → get C.opens o ≡ Some kind → ((p : ℕ) → kind ≢ Process p)
+  pub without_end : (kind : OpenKind) → get C.opens o ≡ Some kind → ((p object : ℕ) → kind ≢ Process p object)
       → record C { opens = remove C.opens o; chans = sides_left kind C.chans } ≡ without (o ∷ []) C
   without_end kind there apart = goes_alone kind (sides_left kind C.chans) there apart (sides_then kind there)
 
   -- another open goes
-  pub without_other : (kind : OpenKind) → get C.opens o ≡ Some kind → ((p : ℕ) → kind ≢ Process p) → IsNoEnd kind
+  pub without_other : (kind : OpenKind) → get C.opens o ≡ Some kind → ((p object : ℕ) → kind ≢ Process p object) → IsNoEnd kind
       → record C { opens = remove C.opens o } ≡ without (o ∷ []) C
   without_other kind there apart no_end = goes_alone kind C.chans there apart (chans_then kind there no_end)
 
@@ -345,13 +345,13 @@ module _ (first : State) (old t : Tree) (tables : FinMap nat_cmp Table) (process
   within after by r k last = ended_last first after by r k last
 
   -- what the parts are once an open of a process has gone
-  pub after_process : (p : ℕ) (new_tables : FinMap nat_cmp Table) (new_processes : FinMap nat_cmp ProcessState) (new_statuses : FinMap nat_cmp Status) (killed : Held)
-      → kind ≡ Process p → killed.kinds ≡ new.kinds
+  pub after_process : (p object : ℕ) (new_tables : FinMap nat_cmp Table) (new_processes : FinMap nat_cmp ProcessState) (new_statuses : FinMap nat_cmp Status) (killed : Held)
+      → kind ≡ Process p object → killed.kinds ≡ new.kinds
       → ((q : ℕ) → number (get killed.counts q) + total (count_in q) tables ≡ number (get new.counts q) + total (count_in q) new_tables)
       → IsKilledIn p tables processes statuses new_tables new_processes new_statuses → IsGoing first old new_tables new_processes new_statuses channels killed t
-  after_process p new_tables new_processes new_statuses killed of kinds counts parts =
+  after_process p object new_tables new_processes new_statuses killed of kinds counts parts =
       let left : killed.kinds ≡ remove h.kinds o = kinds ∙ kinds_are in
-      let state = without_process now o p new_tables new_processes new_statuses (there ∙ ap Some of) going.all_tables going.all_own parts in
+      let state = without_process now o p object new_tables new_processes new_statuses (there ∙ ap Some of) going.all_tables going.all_own parts in
       let by : LetsGo first (state_by new_tables new_processes new_statuses (remove h.kinds o) going.all old) = subst (LetsGo first) (sym state) next in
       record {
         all = going.all;
@@ -384,7 +384,7 @@ module _ (first : State) (old t : Tree) (tables : FinMap nat_cmp Table) (process
       → (AreFew channels → AreFew new_channels) → IsGoing first old tables processes statuses new_channels hung t
   after_end reads writes flags new_channels hung of kinds are going_on counts few =
       let left : hung.kinds ≡ remove h.kinds o = kinds ∙ kinds_are in
-      let state = without_end now o kind there (λ p e. no_process p (sym of ∙ e)) in
+      let state = without_end now o kind there (λ p object e. no_process p object (sym of ∙ e)) in
       let by : LetsGo first (state_by tables processes statuses (remove h.kinds o) (sides_left kind going.all) old) = subst (LetsGo first) (sym state) next in
       record {
         all = sides_left kind going.all;
@@ -401,14 +401,14 @@ module _ (first : State) (old t : Tree) (tables : FinMap nat_cmp Table) (process
         tree = going.tree;
       }
     where
-      no_process : (p : ℕ) → End reads writes flags ≢ Process p
-      no_process p e = cc
+      no_process : (p object : ℕ) → End reads writes flags ≢ Process p object
+      no_process p object e = cc
 
-  other_goes : ((p : ℕ) → kind ≢ Process p) → IsNoEnd kind → LetsGo first (state_by tables processes statuses (remove h.kinds o) going.all old)
+  other_goes : ((p object : ℕ) → kind ≢ Process p object) → IsNoEnd kind → LetsGo first (state_by tables processes statuses (remove h.kinds o) going.all old)
   other_goes apart no_end = subst (LetsGo first) (sym (without_other now o kind there apart no_end)) next
 
   -- an open of no node has gone
-  pub after_none : ((p : ℕ) → kind ≢ Process p) → IsNoEnd kind → ((n : ℕ) → one_of_node n kind ≡ 0) → IsGoing first old tables processes statuses channels new t
+  pub after_none : ((p object : ℕ) → kind ≢ Process p object) → IsNoEnd kind → ((n : ℕ) → one_of_node n kind ≡ 0) → IsGoing first old tables processes statuses channels new t
   after_none apart no_end none =
       let by = other_goes apart no_end in
       record {
@@ -427,7 +427,7 @@ module _ (first : State) (old t : Tree) (tables : FinMap nat_cmp Table) (process
       }
 
   -- an open of a node has gone, and the node where it isn't used
-  pub after_node : (n : ℕ) (u : Tree) → ((p : ℕ) → kind ≢ Process p) → IsNoEnd kind → ((m : ℕ) → m ≢ n → one_of_node m kind ≡ 0)
+  pub after_node : (n : ℕ) (u : Tree) → ((p object : ℕ) → kind ≢ Process p object) → IsNoEnd kind → ((m : ℕ) → m ≢ n → one_of_node m kind ≡ 0)
       → (is_used new.kinds t n ≡ true → u ≡ t) → (get t.nodes n ≡ None → u ≡ t)
       → (is_used new.kinds t n ≡ false → IsSome (get t.nodes n) → u ≡ forgotten t n) → IsTree u → IsGoing first old tables processes statuses channels new u
   after_node n u apart no_end others used absent unused tree =

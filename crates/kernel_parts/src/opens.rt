@@ -1,5 +1,5 @@
 //! The opens of a process's descriptors: the one that a number leads to, and one more.
-ghost use Rattle.std.specs.Prelude.{◌≡◌, ◌<◌, ℕ, None, OnOk, OnErr};
+ghost use Rattle.std.specs.Prelude.{◌≡◌, ◌<◌, ℕ, IsSome, None, OnOk, OnErr};
 ghost use Rattle.abi_base.specs.declared.limits.TheConstants.{MOST_DESCRIPTORS};
 ghost use Rattle.entry_calls.specs.Done.{IsNew};
 ghost use Rattle.entry_calls.specs.Plans.{change_of, new_nodes_of};
@@ -59,8 +59,8 @@ pub struct Opening {
     pub new: ObjId,
 }
 
-// Puts a descriptor at a free number, and its open, which it alone holds. `Err` changes nothing.
-fn add_open(
+/// Puts a descriptor at a free number, and its open, which it alone holds. `Err` changes nothing.
+pub fn add_open(
     table: &mut FdTable,
     objects: &mut Objects,
     fd: u32,
@@ -74,6 +74,7 @@ fn add_open(
     ensures table { OnOk result (table.new ≡ map.insert table.old fd descriptor) }
     ensures kinds { OnOk result (objects.new.kinds ≡ map.insert objects.old.kinds descriptor.id kind) }
     ensures counts { OnOk result (IsMoved table.old table.new objects.old.counts objects.new.counts) }
+    ensures there { (o : ℕ) → IsSome (map.get objects.old.counts o) → IsSome (map.get objects.new.counts o) }
     ensures same_table { OnErr result (table.new ≡ table.old) }
     ensures same_objects { OnErr result (objects.new ≡ objects.old) }
 {

@@ -1,19 +1,23 @@
 //! What the kernel keeps of a process beside its descriptors and its status.
-ghost use Rattle.std.specs.Prelude.{◌≡◌, ◌+◌, ◌<◌, ◌^◌, ℕ, ⊤, IfOk, OnOk, OnErr, IfSome, IsSome, Some, option_copied};
+ghost use Rattle.std.specs.Prelude.{true, is_some, ◌≡◌, ◌+◌, ◌<◌, ◌^◌, ℕ, ⊤, IfOk, OnOk, OnErr, IfSome, IsSome, Some, option_copied};
 ghost use Rattle.std.specs.FinMap as map;
 ghost use Rattle.kernel_parts.specs.Activity.{activity_at, IsActivity};
 ghost use Rattle.kernel_parts.specs.Entries.{number_of};
 ghost use Rattle.kernel_parts.specs.OwnCalls.{new_thread, words_after, IsOwnStep};
 ghost use Rattle.kernel_parts.specs.Waiting.{kept_in};
-ghost use Rattle.kernel_model.specs.Families.ClockCalls.{drawn_by};
+ghost use Rattle.clock_random.specs.Random.{random_bytes};
+ghost use Rattle.kernel_model.specs.Families.Children.{byte_unit};
+ghost use Rattle.kernel_model.specs.Families.ClockCalls.{can_draw, drawn_by};
 ghost use Rattle.kernel_model.specs.Families.Numbers.{made_more};
 ghost use Rattle.kernel_model.specs.Families.ProcessCalls.{ended_process, is_last_thread, made_in};
 ghost use Rattle.kernel_model.specs.Outcome.{IsSuccess};
-ghost use Rattle.kernel_model.specs.OwnChanges.{without_thread};
-ghost use Rattle.kernel_model.specs.Start.{first_process};
+ghost use Rattle.kernel_model.specs.OwnChanges.{begun_anew, may_bear, with_next_child, without_thread};
+ghost use Rattle.kernel_model.specs.Families.ForkCalls.{can_fork, child_number, child_process};
+ghost use Rattle.kernel_model.specs.Start.{canary_words, first_process};
 ghost use Rattle.kernel_model.specs.Waits.{thread_set};
 
 use crate::activity::Activity;
+use crate::ended_threads::keep_only;
 use crate::numbers::next_number;
 use crate::start::{LAUNCH_PROCESS, single};
 use crate::waiting::Surroundings;
@@ -22,6 +26,7 @@ use abi_types::{
 };
 use clock_random::random_bytes;
 use fd_table::FdTable;
+use lists::Bytes;
 use maps::NumMap;
 use right_rules::{refused, success, success_with};
 use std::alloc::{AllocError, Global};
@@ -33,8 +38,19 @@ const MOST_THREADS: usize = 64;
 // Each thread's number is less than this one, so that the words of locks have room for it.
 const THREAD_LIMIT: u32 = (1 << 30) - 1;
 
-// How many random words process 0 has drawn as it starts: those of its canary.
+// How many random words a program's canary has, and how many bytes.
 const CANARY_WORDS: u64 = 16;
+
+const CANARY_SIZE: usize = 64;
+
+// How many turns a process must have left to make a child.
+const LEAST_TURNS: u64 = 16;
+
+// A process of this depth has no child.
+const MOST_DEPTH: u32 = 4;
+
+// How many children a process may have.
+const MOST_CHILDREN: u32 = 254;
 
 // A process draws fewer random words than this.
 const WORD_LIMIT: u64 = 1 << 63;
@@ -47,9 +63,21 @@ const WORD_SIZE: u64 = 4;
 /// yet, so there is nothing to keep of that.
 #[derive(Drop)]
 pub struct ProcessState {
-    threads: NumMap<Thread>,
+    pub(crate) threads: NumMap<Thread>,
     counts: Counts,
     depth: u32,
+}
+
+// What 1 in the byte of this depth adds to a process's number.
+fn byte_unit(depth: u32) -> u32
+    ensures { result ≡ byte_unit depth }
+{
+    match depth {
+        0 => 1 << 24,
+        1 => 1 << 16,
+        2 => 1 << 8,
+        _ => 1,
+    }
 }
 
 impl Model for ProcessState {
@@ -178,6 +206,86 @@ impl ProcessState {
         let bytes = random_bytes(alloc, &constants.key, pid.0, place, length as usize)?;
         self.counts.words = after;
         Ok(Answer::Reply(success_with(0, Payload::Content(bytes))))
+    }
+
+    // Whether the process may have one child more.
+    fn may_bear(&self) -> bool
+        ensures { result ≡ may_bear self.now }
+    {
+        self.depth < MOST_DEPTH && self.counts.forks < MOST_CHILDREN
+    }
+
+    /// Whether the thread can make a child of the process, which has so many turns left: it is one of its threads, the turns are 16 at least,
+    /// the process is less deep than 4 and has counted fewer than 254 children, and there are numbers for the child's object and its open.
+    pub fn can_fork(&self, pid: Pid, tid: Tid, left: u64) -> bool
+        ensures { result ≡ can_fork left pid tid self.now }
+    {
+        left >= LEAST_TURNS
+            && self.may_bear()
+            && self.threads.contains(u64::from(tid.0))
+            && self.numbered(pid, 2).is_some()
+    }
+
+    /// The number of the process's next child.
+    pub fn next_child(&self, pid: Pid) -> Pid
+        requires bears { may_bear self.now ≡ true }
+        requires fits { child_number pid self.now < 2 ^ 32 }
+        ensures { result ≡ child_number pid self.now }
+    {
+        Pid(pid.0 + (self.counts.forks + 1) * byte_unit(self.depth))
+    }
+
+    /// What a child starts with that the thread makes. `Err` where memory ran out.
+    pub fn child(&self, alloc: Global, tid: Tid) -> Result<ProcessState, AllocError>
+        requires { may_bear self.now ≡ true }
+        ensures { IfOk result (λ child. child ≡ child_process tid self.now) }
+    {
+        Ok(ProcessState {
+            threads: single(alloc, u64::from(tid.0), Thread::Runnable)?,
+            counts: Counts {
+                objects: 0,
+                threads: self.counts.threads,
+                forks: 0,
+                words: 0,
+            },
+            depth: self.depth + 1,
+        })
+    }
+
+    /// Counts a child more.
+    pub fn count_child(&mut self)
+        requires { may_bear self.old ≡ true }
+        ensures { self.new ≡ with_next_child self.old }
+    {
+        self.counts.forks += 1;
+    }
+
+    /// The canary of a program that begins in the process now: the next 64 bytes of the stream that has the process's number. `None` where
+    /// the process can't draw them. `Err` where memory ran out, which comes only where it can.
+    pub fn next_canary(
+        &self,
+        alloc: Global,
+        constants: &Constants,
+        pid: Pid,
+    ) -> Result<Option<Bytes>, AllocError>
+        ensures can { IfOk result (λ canary. is_some canary ≡ can_draw canary_words self.now) }
+        ensures bytes { IfOk result (λ canary. IfSome canary (λ bytes. bytes ≡ random_bytes constants.now.key pid self.now.counts.words 64)) }
+        ensures only { OnErr result (can_draw canary_words self.now ≡ true) }
+    {
+        if self.words_after(CANARY_WORDS).is_none() {
+            return Ok(None);
+        }
+        let canary = random_bytes(alloc, &constants.key, pid.0, self.counts.words, CANARY_SIZE)?;
+        Ok(Some(canary))
+    }
+
+    /// Another program begins in the process, by this thread: no other thread is left, and the words of its canary are drawn. Takes no memory.
+    pub fn begin_anew(&mut self, tid: Tid)
+        requires { can_draw canary_words self.old ≡ true }
+        ensures { self.new ≡ begun_anew canary_words tid self.old }
+    {
+        keep_only(&mut self.threads, u64::from(tid.0));
+        self.counts.words += CANARY_WORDS;
     }
 
     /// Makes a thread wait in a copy of a call, which was made at the moment `since`. `Err` changes nothing.

@@ -10,6 +10,7 @@ ghost use Rattle.tree_model.specs.Opens.{is_used};
 ghost use Rattle.tree_model.specs.Retained.{retained};
 ghost use Rattle.tree_model.specs.Tree.{IsTree};
 
+use crate::ended_threads::wake_waiting;
 use crate::process::ProcessState;
 use crate::table::let_go_all;
 use abi_types::{ObjId, OpenKind, Pid, Signal, Status};
@@ -41,13 +42,14 @@ fn is_alive(status: Option<Status>) -> bool
     matches!(status, Some(Status::Live))
 }
 
-// Kills a process, where it lives: it has no descriptor and no thread left.
+// Kills a process, where it lives: it has no descriptor and no thread left. Those that wait are to be looked at again.
 fn kill(
     pid: Pid,
     objects: &mut Objects,
     tables: &mut NumMap<FdTable>,
     processes: &mut NumMap<ProcessState>,
     statuses: &mut NumMap<Status>,
+    channels: &mut Channels,
 )
     requires covered { (o : ℕ) → total (count_in o) tables.old ≤ number (map.get objects.old.counts o) }
     requires tables { (p : ℕ) → is_some (map.get tables.old p) ≡ is_some (map.get statuses.old p) }
@@ -55,11 +57,14 @@ fn kill(
     ensures kinds { objects.new.kinds ≡ objects.old.kinds }
     ensures counts { (o : ℕ) → number (map.get objects.new.counts o) + total (count_in o) tables.old ≡ number (map.get objects.old.counts o) + total (count_in o) tables.new }
     ensures parts { IsKilledIn pid tables.old processes.old statuses.old tables.new processes.new statuses.new }
+    ensures channels { channels.new ≡ channels.old }
 {
     let p = u64::from(pid.0);
     if is_alive(statuses.get(p).copied()) {
         statuses.replace(p, Status::Killed(Signal::Kill));
-        processes.get_mut(p).end();
+        let own = processes.get_mut(p);
+        wake_waiting(channels, pid, own);
+        own.end();
         let_go_all(tables.get_mut(p), objects);
     }
 }
@@ -87,7 +92,9 @@ pub fn release(
 {
     while let Some((_, kind)) = objects.pop_unheld() {
         match kind {
-            OpenKind::Process(pid) => kill(pid, objects, tables, processes, statuses),
+            OpenKind::Process { pid, .. } => {
+                kill(pid, objects, tables, processes, statuses, channels);
+            }
             OpenKind::End { .. } => leave(objects, channels, &kind),
             _ => {
                 if let Some(node) = node_of(&kind) {

@@ -1,6 +1,7 @@
-//! Letting go of all descriptors of a table.
-ghost use Rattle.std.specs.Prelude.{◌≡◌, ℕ, ◌+◌, ◌≤◌};
+//! Holding what a table names, and letting go of it.
+ghost use Rattle.std.specs.Prelude.{◌≡◌, ℕ, ◌+◌, ◌≤◌, ◌^◌, Some, IsSome};
 ghost use Rattle.std.specs.FinMap as map;
+ghost use Rattle.abi_types.specs.declared.descriptor.Descriptor.{Descriptor};
 ghost use Rattle.maps.specs.Maps.{number};
 ghost use Rattle.kernel_model.specs.Release.{count_in};
 
@@ -16,5 +17,23 @@ pub fn let_go_all(table: &mut FdTable, objects: &mut Objects)
 {
     while let Some((_, descriptor)) = table.pop_first() {
         objects.let_go(descriptor.id);
+    }
+}
+
+/// Each open has as many holders more as the table names it. Looks at no number above the table's highest.
+pub fn hold_all(table: &FdTable, objects: &mut Objects)
+    requires there { (n : ℕ) (d : Descriptor) → map.get table.now n ≡ Some d → IsSome (map.get objects.old.counts d.id) }
+    requires few { (o : ℕ) → number (map.get objects.old.counts o) ≤ 2 ^ 62 + 2 ^ 61 }
+    ensures kinds { objects.new.kinds ≡ objects.old.kinds }
+    ensures counts { (o : ℕ) → number (map.get objects.new.counts o) ≡ number (map.get objects.old.counts o) + count_in o table.now }
+{
+    let mut left = table.len();
+    let mut fd = 0;
+    while left > 0 {
+        if let Some(descriptor) = table.get(fd) {
+            objects.hold(descriptor.id);
+            left -= 1;
+        }
+        fd += 1;
     }
 }

@@ -93,7 +93,7 @@ fn with_flags(kind: OpenKind, flags: u16) -> OpenKind
             flags,
         },
         OpenKind::Terminal { which, .. } => OpenKind::Terminal { which, flags },
-        OpenKind::Process(pid) => OpenKind::Process(pid),
+        OpenKind::Process { pid, object } => OpenKind::Process { pid, object },
     }
 }
 

@@ -28,7 +28,7 @@ one_of_node_few n (File node offset flags) = one_for_few n node
 one_of_node_few n (Directory node flags) = one_for_few n node
 one_of_node_few n (End reads writes flags) = omega arith
 one_of_node_few n (Terminal which flags) = omega arith
-one_of_node_few n (Process p) = omega arith
+one_of_node_few n (Process p object) = omega arith
 
 one_each : (n : ℕ) (o : Option OpenKind) → weight (one_of_node n) o ≤ weight (λ (_ : OpenKind). 1) o
 one_each n None = omega arith

@@ -16,7 +16,7 @@ pub fn node_of(kind: &OpenKind) -> Option<ObjId>
 {
     match *kind {
         OpenKind::File { node, .. } | OpenKind::Directory { node, .. } => Some(node),
-        OpenKind::End { .. } | OpenKind::Terminal { .. } | OpenKind::Process(_) => None,
+        OpenKind::End { .. } | OpenKind::Terminal { .. } | OpenKind::Process { .. } => None,
     }
 }
 

@@ -1,1 +1,4 @@
 pub mod Tables
+pub mod Indexes
+pub mod SharedTables
+pub mod Lowered

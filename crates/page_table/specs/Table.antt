@@ -1,9 +1,9 @@
 -- The pages of a memory as they are kept: each in a slot with its number, in no order, and an index from numbers to slots.
-use Rattle.std.specs.Prelude.{◌≡◌, ℕ, ◌<◌, ◌+◌, ◌++◌, true, false, take, drop, List, length, get_or, Some}
+use Rattle.std.specs.Prelude.{◌≡◌, ℕ, ◌<◌, ◌≤◌, ◌^◌, ◌+◌, ◌++◌, true, false, take, drop, List, length, get_or, Some}
 use Rattle.std.specs.Ordering.{nat_cmp}
-use Rattle.std.specs.FinMap.{FinMap, get, insert}
+use Rattle.std.specs.FinMap.{FinMap, get, insert, len}
 use Rattle.maps.specs.Closure.{changed}
-use Rattle.page_table.specs.declared.table.Slot.{Slot}
+use Rattle.page_table.specs.declared.slots.Slot.{Slot}
 use Rattle.page_table.specs.Page.{Page, Pages, zero_page}
 use Rattle.page_table.specs.Numbers.{bytes_of}
 
@@ -19,10 +19,18 @@ slot_at slots i = get_or slots i no_slot
 unfoldable pub content : FinMap nat_cmp ℕ → List Slot → Pages
 content index slots = changed (λ _ i. (slot_at slots i).page) index
 
--- the index leads to a slot of the number, and to each slot by its number
-pub record IsIndexed (index : FinMap nat_cmp ℕ) (slots : List Slot) : Type 0 where
+-- The index leads to a slot of the number, and to each slot from place k on by its number. The slots before that are shared with other
+-- tables, and some of them are of pages that this table has no more, or has in a slot of its own.
+pub record IsIndexed (k : ℕ) (index : FinMap nat_cmp ℕ) (slots : List Slot) : Type 0 where
   pub placed : (q i : ℕ) → get index q ≡ Some i → (i < length slots) × ((slot_at slots i).number ≡ q)
-  pub found : (i : ℕ) → i < length slots → get index (slot_at slots i).number ≡ Some i
+  pub found : (i : ℕ) → k ≤ i → i < length slots → get index (slot_at slots i).number ≡ Some i
+
+-- A table of slots that it shares with others, which come first, and of slots of its own, for which there is so much room: each of its
+-- pages may come to be its own.
+pub record IsTable (index : FinMap nat_cmp ℕ) (shared slots : List Slot) (capacity : ℕ) : Type 0 where
+  pub indexed : IsIndexed (length shared) index (shared ++ slots)
+  pub room : len index ≤ capacity
+  pub few : length shared < 2 ^ 63
 
 -- the n lowest bytes of v were written into the page q, which may be written, from a place in it on
 pub record IsStored (m : Pages) (q place n v : ℕ) (after : Pages) : Type 0 where

@@ -5,4 +5,5 @@ pub use mapped_page::MappedPage;
 pub use table::PageTable;
 
 mod mapped_page;
+mod slots;
 mod table;

@@ -1,19 +1,18 @@
 //! A page of a guest's memory.
-ghost use Rattle.std.specs.Prelude.{◌≡◌, ◌≤◌, ◌+◌, length, take, drop, ◌++◌, IfOk};
+ghost use Rattle.std.specs.Prelude.{◌≡◌, ◌≤◌, ◌+◌, length, take, drop, ◌++◌};
 ghost use Rattle.page_table.specs.Numbers.{IsWidth, bytes_of};
 ghost use Rattle.page_table.specs.Page.{zero_page, with_prot};
 
 use abi_base::{PAGE_SIZE, Prot};
-use std::alloc::{AllocError, Global};
 use std::marker::Model;
 
 const LENGTH: usize = PAGE_SIZE as usize;
 
-/// A page's bytes and rights. The bytes are an array, so that finding them takes one look at the page and no look at a
-/// length.
+/// A page's bytes and rights. The bytes are an array in the page itself, so that finding them takes one look at the page and no look
+/// at a length.
 #[derive(Drop)]
 pub struct MappedPage {
-    bytes: Box<[u8; LENGTH]>,
+    bytes: [u8; LENGTH],
     prot: Prot,
 }
 
@@ -26,29 +25,30 @@ impl Model for MappedPage {
 
     ghost coded = { page_code };
 
-    ghost view = { λ p. record { bytes = p.bytes.value; prot = p.prot } };
+    ghost view = { λ p. record { bytes = p.bytes; prot = p.prot } };
 
-    ghost invariant = { λ p. length p.bytes.value ≡ PAGE_SIZE };
+    ghost invariant = { λ p. length p.bytes ≡ PAGE_SIZE };
 }
 
 impl MappedPage {
     /// A page of zeros.
-    pub fn new(alloc: Global, prot: Prot) -> Result<Self, AllocError>
-        ensures { IfOk result (λ page. page ≡ zero_page prot) }
+    pub fn new(prot: Prot) -> Self
+        ensures { result ≡ zero_page prot }
     {
-        let bytes = Box::new(alloc, [0; LENGTH])?;
-        Ok(MappedPage { bytes, prot })
+        MappedPage {
+            bytes: [0; LENGTH],
+            prot,
+        }
     }
 
     /// An equal page.
-    pub fn copy(&self, alloc: Global) -> Result<Self, AllocError>
-        ensures { IfOk result (λ page. page ≡ self.now) }
+    pub fn copy(&self) -> Self
+        ensures { result ≡ self.now }
     {
-        let bytes = Box::new(alloc, *self.bytes)?;
-        Ok(MappedPage {
-            bytes,
+        MappedPage {
+            bytes: self.bytes,
             prot: self.prot,
-        })
+        }
     }
 
     /// Gives the page other rights.
@@ -62,7 +62,7 @@ impl MappedPage {
     pub fn reset(&mut self, prot: Prot)
         ensures { self.new ≡ zero_page prot }
     {
-        *self.bytes = [0; LENGTH];
+        self.bytes = [0; LENGTH];
         self.prot = prot;
     }
 

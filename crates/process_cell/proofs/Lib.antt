@@ -1,3 +1,4 @@
 pub mod Places
+pub mod Alone
 pub mod Ties
 pub mod Outcomes

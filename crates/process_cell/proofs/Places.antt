@@ -17,6 +17,7 @@ use Rattle.kernel_model.specs.Step.{IsStep}
 use Rattle.kernel_model.specs.Threads.{makes_thread, next_number}
 use Rattle.kernel_model.proofs.Steps.{step_moves_only}
 use Rattle.kernel_model.proofs.Tests.{none_of, not_true}
+use Rattle.tree_model.specs.Grants.{MayBegin}
 use Rattle.run_model.specs.Legal.{Fits, Legal}
 use Rattle.run_model.specs.Own.{IsLiveIn, Made, Same}
 use Rattle.run_model.specs.World.{World, Guest, world, acted, thread_at, turned}
@@ -38,7 +39,7 @@ makes_create : (call : Call) (given : Answer) → makes_thread call given ≡ tr
 makes_create (ThreadCreate attributes) given makes = tt
 makes_create _ given makes = absurd (not_true makes)
 
-module _ (launch : Launch) (v w : Passing) (t : ℕ) (turns : List ℕ) (call : Call) (made : Made (world launch v.seen) v.pid)
+module _ (launch : Launch) (begins : MayBegin launch.tree launch.grants) (v w : Passing) (t : ℕ) (turns : List ℕ) (call : Call) (made : Made (world launch v.seen) v.pid)
     (told : AddedCall launch v t turns call w) where
   abbrev e : Entry
   e = answered_call (head_of told.moment v.pid t turns) call None told.given
@@ -58,7 +59,7 @@ module _ (launch : Launch) (v w : Passing) (t : ℕ) (turns : List ℕ) (call : 
   -- entries of others have left the process as it was
   same : Same before (world launch v.seen) v.pid
   same =
-      left_alone launch v.seen told.added.later.beginning.0 told.added.before v.pid (legal_front launch told.added.before (e ∷ []) legal)
+      left_alone launch v.seen told.added.later.beginning.0 told.added.before v.pid begins (legal_front launch told.added.before (e ∷ []) legal)
       (sym told.added.later.beginning.1) told.added.later.same made (fits.live refl)
 
   after_is : world launch w.seen ≡ acted (turned before v.pid turns) who (act.Call call told.given)
@@ -115,11 +116,13 @@ module _ (t n : ℕ) (threads threads' : Threads) where
   left_takes made (did_act.Starts u) at starts without = starts_left made u at starts without
   left_takes made did_act.Parks at starts without = ap (λ (m : Threads). insert m t doing.Waits) without
   left_takes made did_act.Leaves at starts without = ap (λ (m : Threads). remove m t) without
+  left_takes made did_act.Begins at starts without = refl
+  left_takes made did_act.Lost at starts without = without
   left_takes made did_act.Ends at starts without = without
   left_takes made did_act.Gone at starts without = without
   left_takes made did_act.NoMemory at starts without = without
 
-module _ (launch : Launch) (v w x : Passing) (t : ℕ) (threads threads' : Threads) (turns : List ℕ) (call : Call) (guest : Guest) (made : Option ℕ)
+module _ (launch : Launch) (begins : MayBegin launch.tree launch.grants) (v w x : Passing) (t : ℕ) (threads threads' : Threads) (turns : List ℕ) (call : Call) (guest : Guest) (made : Option ℕ)
     (placed : HasPlace launch v threads call w threads' made) where
   abbrev next : ℕ
   next = next_number (world launch w.seen).state v.pid
@@ -132,6 +135,8 @@ module _ (launch : Launch) (v w x : Passing) (t : ℕ) (threads threads' : Threa
   starts_at (did_act.Starts u) told = numbered u told.2
   starts_at did_act.Parks told = tt
   starts_at did_act.Leaves told = tt
+  starts_at did_act.Begins told = tt
+  starts_at did_act.Lost told = tt
   starts_at did_act.Ends told = tt
   starts_at did_act.Gone told = tt
   starts_at did_act.NoMemory told = tt
@@ -141,9 +146,11 @@ module _ (launch : Launch) (v w x : Passing) (t : ℕ) (threads threads' : Threa
   has_place_in did_act.Runs there runs told = tt
   has_place_in (did_act.Starts u) there runs told =
       subst (λ (n : ℕ). IsSome (get threads' n)) (sym (numbered u told.2))
-      (placed.there (starts_creates launch w x t turns call there told.0 u told.1.live told.2))
+      (placed.there (starts_creates launch begins w x t turns call there told.0 u told.1.live told.2))
   has_place_in did_act.Parks there runs told = subst (λ (m : Threads). IsSome (get m t)) (sym placed.without) (subst IsSome (sym runs) refl)
   has_place_in did_act.Leaves there runs told = tt
+  has_place_in did_act.Begins there runs told = subst (λ (m : Threads). IsSome (get m t)) (sym placed.without) (subst IsSome (sym runs) refl)
+  has_place_in did_act.Lost there runs told = tt
   has_place_in did_act.Ends there runs told = tt
   has_place_in did_act.Gone there runs told = tt
   has_place_in did_act.NoMemory there runs told = tt

@@ -1,12 +1,14 @@
 -- A process stays tied to its world.
---     tied_first, tied_turn, tied_moved, tied_act, tied_wake, tied_end      after each of what a process does
---     asks_call, asks_wake, asks_end      what it asks the kernel for
-use Rattle.std.proofs.Common.{◌≡◌, ◌≢◌, ℕ, ◌<◌, Bool, true, false, List, [], ◌∷◌, ◌++◌, Option, None, Some, IsSome, inl, inr, refl, sym, ap, subst, ◌∙◌}
+--     tied_first, tied_turn, tied_moved, tied_act, tied_stopped, tied_fork, tied_wake, tied_end      after each of what a process does
+--     tied_child      a child at its start
+--     asks_call, asks_fork, asks_wake, asks_end      what it asks the kernel for
+use Rattle.std.proofs.Common.{◌≡◌, ◌≢◌, ℕ, ◌<◌, Bool, true, false, List, [], ◌∷◌, ◌++◌, Option, None, Some, IsSome, Result, Ok, Err, inl, inr, refl, sym, ap, subst, ◌∙◌}
 use Rattle.std.proofs.lemmas.Bool.Decides.{eqb_tells}
 use Rattle.std.specs.FinMap.{FinMap, empty, get, insert, remove, get-empty}
 use Rattle.std.specs.Ordering.{nat_cmp}
 use Rattle.abi_base.specs.declared.errno.Errno.TheVariants.{Nosys}
 use Rattle.abi_types.specs.declared.call.Call.{Call}
+use Rattle.abi_types.specs.declared.call.Call.TheVariants.{ProcFork}
 use Rattle.abi_types.specs.declared.reply.Answer.{Answer}
 use Rattle.abi_types.specs.declared.reply.Answer.TheVariants as answer
 use Rattle.abi_types.specs.declared.status.Status.TheVariants.{Live}
@@ -19,28 +21,32 @@ use Rattle.maps.specs.Maps.{get-insert-same, get-insert-other, get-remove-same, 
 use Rattle.kernel_model.specs.Reply.{refused}
 use Rattle.kernel_model.specs.State.{State, thread_in, thread_of, threads_of}
 use Rattle.kernel_model.proofs.Tests.{none_is_no, not_true}
+use Rattle.tree_model.specs.Grants.{MayBegin}
 use Rattle.rv_interp.specs.declared.turns.TurnEnd.{TurnEnd}
 use Rattle.rv_interp.specs.declared.turns.TurnEnd.TheVariants as turn_end_is
 use Rattle.call_codec.specs.Arguments.{args_of}
 use Rattle.call_codec.specs.Start.{first_registers}
-use Rattle.run_model.specs.Legal.{AreWhole, Legal, MayTurn, LastEnds}
+use Rattle.call_codec.proofs.ProcessLaws.{fork_turns}
+use Rattle.run_model.specs.Legal.{AreWhole, IsRunnable, Legal, MayTurn, LastEnds}
 use Rattle.run_model.specs.Own.{IsLiveIn, Same}
 use Rattle.run_model.specs.World.{World, Guest, world, start_world, guest_of, first_guest, registers_of, thread_at, turned_guest, turned_guest_by, turn_end}
 use Rattle.run_model.proofs.Asks.{asks_stay, whole_there}
 use Rattle.run_model.proofs.Histories.{world_none, first_guest_is, first_state, first_threads, turned_more, whole_more}
 use Rattle.run_model.proofs.Own.{left_alone, same_threads}
 use Rattle.run_model.proofs.Registers.{legal_has_registers}
-use Rattle.kernel_cell.specs.Acting.{AsksCall, AsksEnd, AsksWake, GoesOn, HasStarted, IsActed, IsStopped, IsWoken, KeepsBut, KeepsTurns, Looked}
-use Rattle.shared_history.specs.Passes.{Passing}
+use Rattle.kernel_cell.specs.Acting.{AsksCall, AsksEnd, AsksWake, GoesOn, HasNoChild, HasStarted, IsActed, IsAlone, IsChild, IsForked, IsStopped, IsWoken, KeepsBut, KeepsTurns, Looked}
+use Rattle.shared_history.specs.Passes.{IsSeen, Passing}
 use Rattle.kernel_cell.specs.declared.results.Acted.{Acted}
 use Rattle.kernel_cell.specs.declared.results.Acted.TheVariants as acted
 use Rattle.kernel_cell.specs.declared.results.EndBy.{EndBy}
 use Rattle.kernel_cell.specs.declared.results.EndBy.TheVariants as end_by
+use Rattle.kernel_cell.specs.declared.results.NotMade.{NotMade}
+use Rattle.kernel_cell.specs.declared.results.NotMade.TheVariants as not_made
 use Rattle.kernel_cell.specs.declared.results.Stopped.{Stopped}
 use Rattle.kernel_cell.specs.declared.results.Stopped.TheVariants as stopped
 use Rattle.kernel_cell.specs.declared.results.Woken.{Woken}
 use Rattle.kernel_cell.specs.declared.results.Woken.TheVariants as woken
-use Rattle.process_cell.specs.Phases.{Threads, phase_after, phase_after_turn, did_after_act, did_after_end, did_after_wake, did_running}
+use Rattle.process_cell.specs.Phases.{Threads, alone, phase_after, phase_after_turn, did_after_act, did_after_end, did_after_fork, did_after_wake, did_running}
 use Rattle.process_cell.specs.Phases.{threads_after_act, threads_after_wake}
 use Rattle.process_cell.specs.Places.{Moved}
 use Rattle.process_cell.specs.Process.{AreThreads, DoesSo, IsDue, RunsIn, Stands, TiedIn, Tied, Waits, WaitsIn, new_pass, standing_of}
@@ -77,7 +83,7 @@ are_but w w' p x threads threads' are others same at u =
 
 -- ---- a process after an entry of its own
 
-module _ (launch : Launch) (history : List Entry) (p : ℕ) (threads : Threads) (guest : Guest) (legal : Legal launch history)
+module _ (launch : Launch) (begins : MayBegin launch.tree launch.grants) (history : List Entry) (p : ℕ) (threads : Threads) (guest : Guest) (legal : Legal launch history)
     (live : IsLiveIn (world launch history) p) (are : AreThreads (world launch history) p threads) (guest_is : guest ≡ guest_of (world launch history) p) where
   lives_there : TiedIn (world launch history) p threads [] guest phase.Lives
   lives_there = (
@@ -86,7 +92,7 @@ module _ (launch : Launch) (history : List Entry) (p : ℕ) (threads : Threads) 
       are = are;
       guest_is = guest_is;
       registers = λ u there. subst (λ (g : Guest). IsSome (get g.regs u)) (sym guest_is)
-          (legal_has_registers launch history p u legal live
+          (legal_has_registers launch history p u begins legal live
           (does_there (get threads u) (thread_of (world launch history).state p u) (are u) there));
     },
     tt,
@@ -233,13 +239,13 @@ module _ (launch : Launch) (v : Passing) (t : ℕ) (threads : Threads) (turns : 
   does_wait waits = subst IsSome (sym (does doing.Waits waits.1)) refl
 
 pub asks_call : (launch : Launch) (v : Passing) (t : ℕ) (threads : Threads) (turns taken : List ℕ) (guest : Guest) (call : Call)
-    → Tied launch v threads turns guest (phase.Calls t) → call ≡ args_of guest.memory (registers_of guest t) → taken ≡ turns
+    → Tied launch v threads turns guest (phase.Calls t) → call ≡ args_of guest.memory (registers_of guest t) guest.left → taken ≡ turns
     → AsksCall (world launch v.seen) v.pid t taken guest call
 asks_call launch v t threads turns taken guest call tied encoded all =
     subst (λ (ts : List ℕ). AsksCall (world launch v.seen) v.pid t ts guest call) (sym all) (record {
       guest_is = tied.0.guest_is;
       registers = tied.0.registers t (subst IsSome (sym tied.1) refl);
-      asks = λ given. (tied.2, encoded ∙ ap (λ (g : Guest). args_of g.memory (registers_of g t)) tied.0.guest_is);
+      asks = λ given. (tied.2, encoded ∙ ap (λ (g : Guest). args_of g.memory (registers_of g t) g.left) tied.0.guest_is);
     })
 
 -- ---- a process after entries of others
@@ -253,11 +259,12 @@ at_pass launch v p threads turns guest now same tied = subst (λ (q : ℕ). Tied
 some_answer : Answer
 some_answer = answer.Reply (refused Nosys)
 
-module _ (launch : Launch) (v w : Passing) (threads : Threads) (turns : List ℕ) (was : Guest) (stands : Stands (world launch v.seen) v.pid threads turns was)
+module _ (launch : Launch) (begins : MayBegin launch.tree launch.grants) (v w : Passing) (threads : Threads) (turns : List ℕ) (was : Guest)
+    (stands : Stands (world launch v.seen) v.pid threads turns was)
     (looked : Looked launch v w) (live : IsLiveIn (world launch w.seen) v.pid) where
   same_since : Same (world launch w.seen) (world launch v.seen) v.pid
   same_since =
-      left_alone launch v.seen looked.later.beginning.0 w.seen v.pid looked.seen.legal (sym looked.later.beginning.1) looked.later.same
+      left_alone launch v.seen looked.later.beginning.0 w.seen v.pid begins looked.seen.legal (sym looked.later.beginning.1) looked.later.same
       (subst IsSome (sym stands.live) refl) live
 
   threads_since : threads_of (world launch w.seen).state v.pid ≡ threads_of (world launch v.seen).state v.pid
@@ -282,7 +289,7 @@ module _ (launch : Launch) (v w : Passing) (threads : Threads) (turns : List ℕ
   call_still t last =
       let guest : Guest = turned_guest_by turns (guest_of (world launch v.seen) v.pid) in
       (asks_stay (world launch v.seen) (world launch w.seen) (thread_at (world launch v.seen).state v.pid t) turns
-      (act.Call (args_of guest.memory (registers_of guest t)) some_answer) same_since.guest threads_since (last, refl)).0
+      (act.Call (args_of guest.memory (registers_of guest t) guest.left) some_answer) same_since.guest threads_since (last, refl)).0
 
   -- the process is what it was, if it is live: between two turns, and before a call
   lives_still : AreWhole (world launch v.seen).state v.pid (guest_of (world launch v.seen) v.pid) turns → Tied launch w threads turns was phase.Lives
@@ -293,18 +300,18 @@ module _ (launch : Launch) (v w : Passing) (threads : Threads) (turns : List ℕ
       → Tied launch w threads turns was (phase.Calls t)
   calls_still t runs last = at_pass launch w v.pid threads turns was (phase.Calls t) looked.pid (stands_still, runs, call_still t last)
 
-calls_moved : (launch : Launch) (v w : Passing) (t : ℕ) (threads : Threads) (turns : List ℕ) (was : Guest) → Tied launch v threads turns was (phase.Calls t)
+calls_moved : (launch : Launch) → MayBegin launch.tree launch.grants → (v w : Passing) (t : ℕ) (threads : Threads) (turns : List ℕ) (was : Guest) → Tied launch v threads turns was (phase.Calls t)
     → Moved launch v w → Tied launch w threads turns was (phase.Calls t)
-calls_moved launch v w t threads turns was tied (inl same) = subst (λ (x : Passing). Tied launch x threads turns was (phase.Calls t)) (sym same) tied
-calls_moved launch v w t threads turns was tied (inr looked) =
-    calls_still launch v w threads turns was tied.0 looked.0 looked.1 t tied.1 tied.2
+calls_moved launch begins v w t threads turns was tied (inl same) = subst (λ (x : Passing). Tied launch x threads turns was (phase.Calls t)) (sym same) tied
+calls_moved launch begins v w t threads turns was tied (inr looked) =
+    calls_still launch begins v w threads turns was tied.0 looked.0 looked.1 t tied.1 tied.2
 
 -- the process that is to make a call, where its pass has moved
-pub tied_moved : (launch : Launch) (v w : Passing) (t : ℕ) (threads : Threads) (turns : List ℕ) (was : Guest) (now : Phase) (old : Standing)
+pub tied_moved : (launch : Launch) → MayBegin launch.tree launch.grants → (v w : Passing) (t : ℕ) (threads : Threads) (turns : List ℕ) (was : Guest) (now : Phase) (old : Standing)
     → Tied launch v threads turns was now → standing_of v threads turns was now ≡ old → old.phase ≡ phase.Calls t → Moved launch v w
     → Tied launch w threads turns was (phase.Calls t)
-tied_moved launch v w t threads turns was now old tied is calls moved =
-    calls_moved launch v w t threads turns was (subst (Tied launch v threads turns was) (ap (λ (s : Standing). s.phase) is ∙ calls) tied) moved
+tied_moved launch begins v w t threads turns was now old tied is calls moved =
+    calls_moved launch begins v w t threads turns was (subst (Tied launch v threads turns was) (ap (λ (s : Standing). s.phase) is ∙ calls) tied) moved
 
 -- ---- a call
 
@@ -336,60 +343,144 @@ starts_do : (launch : Launch) (v w : Passing) (u : ℕ) (threads : Threads) → 
     → HasStarted launch v.seen w.seen v.pid u → AreThreads (world launch w.seen) v.pid (insert threads u doing.Runs)
 starts_do launch v w u threads are started = put_do launch v w u threads are doing.Runs started.others started.runs
 
+-- a thread that is the only one takes turns alone
+alone_do : (launch : Launch) (history : List Entry) (p t : ℕ) → IsRunnable (world launch history).state p t → IsAlone launch history p t
+    → AreThreads (world launch history) p (alone t)
+alone_do launch history p t runs none u =
+    let at : ℕ → Option Thread = thread_of (world launch history).state p in
+    elim (eqb_tells u t) [
+      | inl is ↦ subst (λ (x : ℕ). DoesSo (get (alone t) x) (at x)) (sym is.1)
+          (subst (λ (o : Option Doing). DoesSo o (at t)) (sym (get-insert-same empty t doing.Runs)) runs)
+      | inr apart ↦ subst (λ (o : Option Doing). DoesSo o (at u)) (sym (get-insert-other empty t doing.Runs u apart.1 ∙ get-empty nat_cmp u))
+          (none u apart.1)
+    ]
+
 -- a thread that goes on leaves its process between two steps
 running_lives : (yields : Bool) → phase_after (did_running yields) ≡ phase.Lives
 running_lives true = refl
 running_lives false = refl
 
-module _ (launch : Launch) (v w : Passing) (t : ℕ) (threads : Threads) (turns : List ℕ) (call : Call) (guest : Guest)
+module _ (launch : Launch) (begins : MayBegin launch.tree launch.grants) (v w : Passing) (t : ℕ) (threads : Threads) (turns : List ℕ) (call : Call) (guest : Guest)
     (are : AreThreads (world launch v.seen) v.pid threads) (runs : get threads t ≡ Some doing.Runs) where
   acted_at : (yields : Bool) (outcome : Acted) → IsActed launch v t turns call guest w outcome
       → Tied launch w (threads_after_act threads t outcome) [] guest (phase_after (did_after_act yields outcome))
   acted_at yields acted.Runs told =
       subst (Tied launch w threads [] guest) (sym (running_lives yields))
       (at_pass launch w v.pid threads [] guest phase.Lives told.0.added.pid
-      (lives_there launch w.seen v.pid threads guest told.0.added.seen.legal told.1.live (runs_do launch v w t threads are runs guest told.1 told.2)
+      (lives_there launch begins w.seen v.pid threads guest told.0.added.seen.legal told.1.live (runs_do launch v w t threads are runs guest told.1 told.2)
       told.1.guest_is))
   acted_at yields (acted.Starts u) told =
       at_pass launch w v.pid (insert threads u doing.Runs) [] guest phase.Lives told.0.added.pid
-      (lives_there launch w.seen v.pid (insert threads u doing.Runs) guest told.0.added.seen.legal told.1.live
+      (lives_there launch begins w.seen v.pid (insert threads u doing.Runs) guest told.0.added.seen.legal told.1.live
       (starts_do launch v w u threads are told.2) told.1.guest_is)
   acted_at yields acted.Parks told =
       at_pass launch w v.pid (insert threads t doing.Waits) [] guest phase.Lives told.0.added.pid
-      (lives_there launch w.seen v.pid (insert threads t doing.Waits) guest told.0.added.seen.legal told.1.live
+      (lives_there launch begins w.seen v.pid (insert threads t doing.Waits) guest told.0.added.seen.legal told.1.live
       (put_do launch v w t threads are doing.Waits told.2 (told.1.waits.thread, told.1.waits.there, told.1.waits.waits)) told.1.guest_is)
   acted_at yields acted.Leaves told =
       at_pass launch w v.pid (remove threads t) [] guest phase.Lives told.0.added.pid
-      (lives_there launch w.seen v.pid (remove threads t) guest told.0.added.seen.legal told.1.live
+      (lives_there launch begins w.seen v.pid (remove threads t) guest told.0.added.seen.legal told.1.live
       (left_do launch v w t threads are told.2 told.1.gone) told.1.guest_is)
+  acted_at yields acted.Begins told =
+      at_pass launch w v.pid (alone t) [] guest phase.Lives told.0.added.pid
+      (lives_there launch begins w.seen v.pid (alone t) guest told.0.added.seen.legal told.1.live
+      (alone_do launch w.seen v.pid t told.1.runnable told.2) told.1.guest_is)
+  acted_at yields acted.Lost told = tt
   acted_at yields acted.Ends told = at_pass launch w v.pid threads [] guest phase.Gone told.0.added.pid told.1
   acted_at yields acted.Gone told = at_pass launch w v.pid threads [] guest phase.Gone told.0.pid told.1
   acted_at yields acted.NoMemory told = tt
 
-pub tied_act : (launch : Launch) (v w : Passing) (t : ℕ) (threads threads' : Threads) (turns taken none : List ℕ) (call : Call) (was guest : Guest)
+pub tied_act : (launch : Launch) → MayBegin launch.tree launch.grants → (v w : Passing) (t : ℕ) (threads threads' : Threads) (turns taken none : List ℕ) (call : Call) (was guest : Guest)
     (later : Phase) (yields : Bool) (outcome : Acted) (done : Did) → Tied launch v threads turns was (phase.Calls t)
     → IsActed launch v t taken call guest w outcome → threads' ≡ threads_after_act threads t outcome → done ≡ did_after_act yields outcome
     → none ≡ [] → later ≡ phase_after done → Tied launch w threads' none guest later
-tied_act launch v w t threads threads' turns taken none call was guest later yields outcome done tied told threads_are done_is no_turns phase_is =
+tied_act launch begins v w t threads threads' turns taken none call was guest later yields outcome done tied told threads_are done_is no_turns phase_is =
     subst (λ (x : Threads × List ℕ × Phase). Tied launch w x.0 x.1 guest x.2)
     (λ i. (sym threads_are i, sym no_turns i, sym (phase_is ∙ ap phase_after done_is) i))
-    (acted_at launch v w t threads taken call guest tied.0.are tied.1 yields outcome told)
+    (acted_at launch begins v w t threads taken call guest tied.0.are tied.1 yields outcome told)
+
+-- ---- a proc_fork
+
+-- a call that is a proc_fork is one with the turns that are left
+pub tied_stopped : (launch : Launch) (v : Passing) (t left : ℕ) (threads : Threads) (turns : List ℕ) (guest : Guest) (now later : Phase) (call : Call) (old : Standing)
+    → Tied launch v threads turns guest now → standing_of v threads turns guest now ≡ old → old.phase ≡ phase.Calls t
+    → call ≡ args_of guest.memory (registers_of guest t) guest.left → call ≡ ProcFork left → later ≡ phase.Forks t
+    → Tied launch v threads turns guest later
+tied_stopped launch v t left threads turns guest now later call old tied is calls encoded forks phase_is =
+    let there : Tied launch v threads turns guest (phase.Calls t) =
+    subst (Tied launch v threads turns guest) (ap (λ (s : Standing). s.phase) is ∙ calls) tied in
+    let fork : args_of guest.memory (registers_of guest t) guest.left ≡ ProcFork left = sym encoded ∙ forks in
+    let all : left ≡ guest.left = fork_turns guest.memory (registers_of guest t) guest.left left fork in
+    subst (Tied launch v threads turns guest) (sym phase_is) (there.0, there.1, there.2, fork ∙ ap ProcFork all)
+
+-- a call that is none makes no child
+pub no_fork : (call : Call) → ((left : ℕ) → call ≡ ProcFork left → ⊥) → HasNoChild call
+no_fork (ProcFork left) other = absurd (other left refl)
+no_fork call other = tt
+
+module _ (launch : Launch) (begins : MayBegin launch.tree launch.grants) (v w : Passing) (t : ℕ) (threads : Threads) (turns : List ℕ) (was : Guest)
+    (tied : Tied launch v threads turns was (phase.Forks t)) where
+  pub asks_fork : (taken : List ℕ) (call : Call) → taken ≡ turns → call ≡ ProcFork was.left → AsksCall (world launch v.seen) v.pid t taken was call
+  asks_fork taken call all forks =
+      subst (λ (ts : List ℕ). AsksCall (world launch v.seen) v.pid t ts was call) (sym all) (record {
+        guest_is = tied.0.guest_is;
+        registers = tied.0.registers t (subst IsSome (sym tied.1) refl);
+        asks = λ given. (tied.2, forks ∙ sym tied.3 ∙ ap (λ (g : Guest). args_of g.memory (registers_of g t) g.left) tied.0.guest_is);
+      })
+
+  -- the process goes on
+  forker_lives : (guest : Guest) → w.pid ≡ v.pid → IsSeen launch v.pid w.seen → GoesOn launch w.seen v.pid t guest → KeepsBut launch v.seen w.seen v.pid t
+      → Tied launch w threads [] guest phase.Lives
+  forker_lives guest same seen goes keeps =
+      at_pass launch w v.pid threads [] guest phase.Lives same
+      (lives_there launch begins w.seen v.pid threads guest seen.legal goes.live (runs_do launch v w t threads tied.0.are tied.1 guest goes keeps)
+      goes.guest_is)
+
+  forked_at : (taken : List ℕ) (call : Call) (guest : Guest) (outcome : Result (Option (Passing × Guest)) NotMade)
+      → IsForked launch v t taken call guest w outcome → Tied launch w threads [] guest (phase_after (did_after_fork outcome))
+  forked_at taken call guest (Ok (Some child)) told =
+      forker_lives guest told.0.added.pid told.0.added.seen told.1 told.2
+  forked_at taken call guest (Ok None) told = forker_lives guest told.0.added.pid told.0.added.seen told.1 told.2
+  forked_at taken call guest (Err not_made.Gone) told = at_pass launch w v.pid threads [] guest phase.Gone told.0.pid told.1
+  forked_at taken call guest (Err not_made.NoMemory) told = tt
+
+  pub tied_fork : (taken none : List ℕ) (call : Call) (guest : Guest) (outcome : Result (Option (Passing × Guest)) NotMade) (done : Did) (later : Phase)
+      → IsForked launch v t taken call guest w outcome → none ≡ [] → done ≡ did_after_fork outcome → later ≡ phase_after done
+      → Tied launch w threads none guest later
+  tied_fork taken none call guest outcome done later told no_turns done_is phase_is =
+      subst (λ (x : List ℕ × Phase). Tied launch w threads x.0 guest x.1) (λ i. (sym no_turns i, sym (phase_is ∙ ap phase_after done_is) i))
+      (forked_at taken call guest outcome told)
+
+-- the process in the phase that contracts see
+pub forks_there : (launch : Launch) (v : Passing) (t : ℕ) (threads : Threads) (turns : List ℕ) (guest : Guest) (now : Phase) (old : Standing)
+    → Tied launch v threads turns guest now → standing_of v threads turns guest now ≡ old → old.phase ≡ phase.Forks t
+    → Tied launch v threads turns guest (phase.Forks t)
+forks_there launch v t threads turns guest now old tied is forks =
+    subst (Tied launch v threads turns guest) (ap (λ (s : Standing). s.phase) is ∙ forks) tied
+
+-- the child, which has its thread alone
+pub tied_child : (launch : Launch) → MayBegin launch.tree launch.grants → (v : Passing) (t : ℕ) (seen : List Entry) (threads : Threads) (turns : List ℕ)
+    (guest : Guest) → v.seen ≡ seen → IsChild launch seen t v.pid guest → threads ≡ alone t → turns ≡ [] → Tied launch v threads turns guest phase.Lives
+tied_child launch begins v t seen threads turns guest same child one none =
+    subst (λ (x : List Entry × Threads × List ℕ). TiedIn (world launch x.0) v.pid x.1 x.2 guest phase.Lives) (λ i. (sym same i, sym one i, sym none i))
+    (lives_there launch begins seen v.pid (alone t) guest child.seen.legal child.goes_on.live
+    (alone_do launch seen v.pid t child.goes_on.runnable child.alone) child.goes_on.guest_is)
 
 -- ---- a wake
 
-module _ (launch : Launch) (v w : Passing) (t : ℕ) (threads : Threads) (turns : List ℕ) (was : Guest) where
+module _ (launch : Launch) (begins : MayBegin launch.tree launch.grants) (v w : Passing) (t : ℕ) (threads : Threads) (turns : List ℕ) (was : Guest) where
   woken_at : (guest : Guest) (turns' : List ℕ) (outcome : Woken) → Tied launch v threads turns was phase.Lives
       → IsWoken launch v t turns guest w outcome → KeepsTurns was guest turns turns' outcome
       → Tied launch w (threads_after_wake threads t outcome) turns' guest (phase_after (did_after_wake outcome))
   woken_at guest turns' woken.Runs tied told kept =
       subst (λ (ts : List ℕ). Tied launch w (insert threads t doing.Runs) ts guest phase.Lives) (sym kept)
       (at_pass launch w v.pid (insert threads t doing.Runs) [] guest phase.Lives told.0.added.pid
-      (lives_there launch w.seen v.pid (insert threads t doing.Runs) guest told.0.added.seen.legal told.1.live
+      (lives_there launch begins w.seen v.pid (insert threads t doing.Runs) guest told.0.added.seen.legal told.1.live
       (put_do launch v w t threads tied.0.are doing.Runs told.2 told.1.runnable) told.1.guest_is))
   woken_at guest turns' woken.Ends tied told kept = at_pass launch w v.pid threads turns' guest phase.Gone told.0.added.pid told.1
   woken_at guest turns' woken.NotReady tied told kept =
       subst (λ (x : List ℕ × Guest). Tied launch w threads x.0 x.1 phase.Lives) (λ i. (sym kept.1 i, sym kept.0 i))
-      (lives_still launch v w threads turns was tied.0 told.0 told.1.0 tied.1)
+      (lives_still launch begins v w threads turns was tied.0 told.0 told.1.0 tied.1)
   woken_at guest turns' woken.Gone tied told kept = at_pass launch w v.pid threads turns' guest phase.Gone told.0.pid told.1
   woken_at guest turns' woken.NoMemory tied told kept = tt
 

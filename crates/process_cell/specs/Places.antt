@@ -47,8 +47,9 @@ abbrev pub threads_left : Option ℕ → Acted → Threads → Threads
 threads_left made (acted.Starts u) threads = threads
 threads_left made other threads = without_place made threads
 
--- a thread that was made has its place, and thread t has one where it is to wait
+-- a thread that was made has its place, and thread t has one where it is to wait, or to be the only one
 abbrev pub HasPlaceFor : ℕ → Acted → Threads → Type 0
 HasPlaceFor t (acted.Starts u) threads = IsSome (get threads u)
 HasPlaceFor t acted.Parks threads = IsSome (get threads t)
+HasPlaceFor t acted.Begins threads = IsSome (get threads t)
 HasPlaceFor t other threads = Unit {0}

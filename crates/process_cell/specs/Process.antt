@@ -1,6 +1,7 @@
 -- How a process is tied to the world of the history that its pass has seen.
 use Rattle.std.specs.Prelude.{◌≡◌, ℕ, List, [], Option, None, Some, IsSome}
 use Rattle.std.specs.FinMap.{empty, get, insert}
+use Rattle.abi_types.specs.declared.call.Call.TheVariants.{ProcFork}
 use Rattle.abi_types.specs.declared.thread.Thread.{Thread}
 use Rattle.abi_types.specs.declared.thread.Thread.TheVariants.{Runnable}
 use Rattle.shared_history.specs.Passes.{Passing}
@@ -9,10 +10,12 @@ use Rattle.kernel_cell.specs.declared.results.EndBy.TheVariants as end_by
 use Rattle.kernel_model.specs.State.{thread_of}
 use Rattle.kernel_model.specs.Waits.{IsParked}
 use Rattle.run_types.specs.declared.launch.Launch.{Launch}
+use Rattle.tree_model.specs.Grants.{MayBegin}
 use Rattle.rv_interp.specs.declared.turns.TurnEnd.TheVariants as turn_end_is
+use Rattle.call_codec.specs.Arguments.{args_of}
 use Rattle.run_model.specs.Legal.{AreWhole, LastEnds}
 use Rattle.run_model.specs.Own.{own, IsLiveIn}
-use Rattle.run_model.specs.World.{World, Guest, world, guest_of, turned_guest_by}
+use Rattle.run_model.specs.World.{World, Guest, world, guest_of, registers_of, turned_guest_by}
 use Rattle.process_cell.specs.Phases.{Threads}
 use Rattle.process_cell.specs.Standing.{Standing}
 use Rattle.process_cell.specs.declared.results.Doing.{Doing}
@@ -51,6 +54,9 @@ abbrev pub TiedIn : World → ℕ → Threads → List ℕ → Guest → Phase �
 TiedIn w p threads turns guest phase.Lives = Stands w p threads turns guest × AreWhole w.state p (guest_of w p) turns
 TiedIn w p threads turns guest (phase.Calls t) =
     Stands w p threads turns guest × (get threads t ≡ Some doing.Runs) × LastEnds w.state p (guest_of w p) turns t turn_end_is.Ecall
+TiedIn w p threads turns guest (phase.Forks t) =
+    Stands w p threads turns guest × (get threads t ≡ Some doing.Runs) × LastEnds w.state p (guest_of w p) turns t turn_end_is.Ecall
+    × (args_of guest.memory (registers_of guest t) guest.left ≡ ProcFork guest.left)
 TiedIn w p threads turns guest (phase.Traps t signal) =
     Stands w p threads turns guest × (get threads t ≡ Some doing.Runs) × LastEnds w.state p (guest_of w p) turns t (turn_end_is.Trap signal)
 TiedIn w p threads turns guest phase.Gone = ¬ IsLiveIn w p
@@ -59,6 +65,10 @@ TiedIn w p threads turns guest phase.Lost = Unit {0}
 -- in the world of the history that the process's pass has seen
 abbrev pub Tied : Launch → Passing → Threads → List ℕ → Guest → Phase → Type 0
 Tied launch pass threads turns guest now = TiedIn (world launch pass.seen) pass.pid threads turns guest now
+
+-- the same of a launch that may begin with its tree and its grants
+abbrev pub IsTied : Launch → Passing → Threads → List ℕ → Guest → Phase → Type 0
+IsTied launch pass threads turns guest now = MayBegin launch.tree launch.grants × Tied launch pass threads turns guest now
 
 -- what contracts see of a process that has these parts
 abbrev pub standing_of : Passing → Threads → List ℕ → Guest → Phase → Standing

@@ -1,6 +1,6 @@
 -- What a step of a thread makes of its process, by the phase that the process was in and by what the thread does.
 --     Enters, EntersCall, EntersWake, EntersNone      what the step adds to the entries that the process did
---     IsCalled, IsFinished, IsEnded      a call, a wake, and an end from outside, by what came of it
+--     IsCalled, IsForked, IsFinished, IsEnded      a call, a proc_fork, a wake, and an end from outside, by what came of it
 --     IsRun      a turn and what it ends in
 --     IsStepped      a step
 use Rattle.std.specs.Prelude.{◌≡◌, ◌≢◌, ◌⊎◌, ◌<◌, ◌-◌, ℕ, [], ◌∷◌, ◌++◌, Option, None, Some}
@@ -14,11 +14,13 @@ use Rattle.run_types.specs.declared.history.Act.TheVariants as act
 use Rattle.run_types.specs.declared.launch.Launch.{Launch}
 use Rattle.rv_interp.specs.declared.turns.TurnEnd.{TurnEnd}
 use Rattle.rv_interp.specs.declared.turns.TurnEnd.TheVariants as turn_end_is
+use Rattle.kernel_model.specs.Threads.{child_told}
 use Rattle.kernel_cell.specs.Acting.{IsNotReady, act_of}
+use Rattle.run_model.specs.World.{share}
 use Rattle.shared_history.specs.Entries.{entry_of, head_of}
 use Rattle.kernel_cell.specs.declared.results.EndBy.{EndBy}
 use Rattle.kernel_cell.specs.declared.results.EndBy.TheVariants as end_by
-use Rattle.process_cell.specs.Phases.{Threads, phase_after_turn}
+use Rattle.process_cell.specs.Phases.{Threads, alone, phase_after_turn}
 use Rattle.process_cell.specs.Standing.{Standing}
 use Rattle.process_cell.specs.declared.results.Did.{Did}
 use Rattle.process_cell.specs.declared.results.Did.TheVariants as did
@@ -60,19 +62,53 @@ pub record LivesOn (before after : Standing) (threads : Threads) : Type 0 where
   pub threads_are : after.threads ≡ threads
 
 -- The call is an entry, and the process lives on: its thread goes on, and gives way to others or not, but after thread_yield it always does;
--- or it goes on beside one that was not there before, or waits in the call, or has ended. Or the process has ended, by this call or before it;
--- or memory ran out before the entry.
+-- or it goes on beside one that was not there before, or in another program with no other thread, or waits in the call, or has ended. Or the
+-- process has ended, by this call or before it; or memory ran out. A proc_fork isn't made by it: the thread stands at it still.
 abbrev pub IsCalled : ℕ → Standing → Standing → Did → Type 0
 IsCalled t before after did.Runs =
     LivesOn before after before.threads × ((entered : EntersCall t before after) × (entered.call ≢ ThreadYield))
 IsCalled t before after did.Yields = LivesOn before after before.threads × EntersCall t before after
 IsCalled t before after (did.Started u) =
     LivesOn before after (insert before.threads u doing.Runs) × (get before.threads u ≡ None) × EntersCall t before after
+IsCalled t before after did.Forks = after ≡ record before { phase = phase.Forks t }
+IsCalled t before after did.Begun = LivesOn before after (alone t) × EntersCall t before after
 IsCalled t before after did.Parks = LivesOn before after (insert before.threads t doing.Waits) × EntersCall t before after
 IsCalled t before after did.NotReady = ⊥
 IsCalled t before after did.ThreadGone = LivesOn before after (remove before.threads t) × EntersCall t before after
 IsCalled t before after did.ProcessGone = (after.phase ≡ phase.Gone) × (EntersCall t before after ⊎ EntersNone before after)
-IsCalled t before after did.NoMemory = (after.phase ≡ phase.Lost) × EntersNone before after
+IsCalled t before after did.NoMemory = (after.phase ≡ phase.Lost) × (EntersCall t before after ⊎ EntersNone before after)
+
+-- ---- children
+
+-- a process that gives a child its sixteenth lives on with the turns that are left then, and its threads as they were
+pub record GivesShare (before after : Standing) : Type 0 where
+  pub lives : after.phase ≡ phase.Lives
+  pub left : after.left ≡ before.left - share before.left
+  pub threads_are : after.threads ≡ before.threads
+
+-- The child has the thread with this number alone, which takes turns, and a sixteenth of the turns that its parent had left. It has seen the
+-- history that its parent has, and did no entry of it.
+pub record IsChildOf (t : ℕ) (before after child : Standing) : Type 0 where
+  pub lives : child.phase ≡ phase.Lives
+  pub threads_are : child.threads ≡ alone t
+  pub left : child.left ≡ share before.left
+  pub turns : child.turns ≡ []
+  pub seen : child.seen ≡ after.seen
+  pub none : child.own ≡ []
+
+-- A proc_fork is an entry, and its thread goes on: with the child that its answer tells, or without one where it tells none. Or the process
+-- had ended before it; or memory ran out.
+abbrev pub IsForked : ℕ → Standing → Standing → Did → Option Standing → Type 0
+IsForked t before after did.Runs None =
+    LivesOn before after before.threads × ((entered : EntersCall t before after) × (child_told entered.call entered.given ≡ None))
+IsForked t before after did.Yields (Some child) =
+    GivesShare before after × ((entered : EntersCall t before after) × (child_told entered.call entered.given ≡ Some child.pid))
+    × IsChildOf t before after child
+IsForked t before after did.ProcessGone None = (after.phase ≡ phase.Gone) × EntersNone before after
+IsForked t before after did.NoMemory None = (after.phase ≡ phase.Lost) × (EntersCall t before after ⊎ EntersNone before after)
+IsForked t before after other child = ⊥
+
+-- ---- wakes and ends
 
 -- The wake is an entry, and the thread goes on and gives way; or it isn't ready, and then nothing of the process changed but the history that it has
 -- seen, in which others alone did entries; or the process has ended, by this wake or before it; or memory ran out before the entry.
@@ -80,6 +116,8 @@ abbrev pub IsFinished : Launch → ℕ → Standing → Standing → Did → Typ
 IsFinished launch t before after did.Runs = ⊥
 IsFinished launch t before after did.Yields = LivesOn before after (insert before.threads t doing.Runs) × EntersWake t before after
 IsFinished launch t before after (did.Started u) = ⊥
+IsFinished launch t before after did.Forks = ⊥
+IsFinished launch t before after did.Begun = ⊥
 IsFinished launch t before after did.Parks = ⊥
 IsFinished launch t before after did.NotReady = (after ≡ record before { seen = after.seen }) × IsNotReady launch after.seen after.pid t
 IsFinished launch t before after did.ThreadGone = ⊥
@@ -121,6 +159,7 @@ StepsAs launch t None before after done = (after ≡ before) × (done ≡ did.Th
 abbrev pub StepsFrom : Launch → ℕ → Phase → Standing → Standing → Did → Type 0
 StepsFrom launch t phase.Lives before after done = StepsAs launch t (get before.threads t) before after done
 StepsFrom launch t (phase.Calls u) before after done = IsCalled u before after done
+StepsFrom launch t (phase.Forks u) before after done = (after ≡ before) × (done ≡ did.Forks)
 StepsFrom launch t (phase.Traps u signal) before after done = IsEnded (end_by.Trap signal) u before after done
 StepsFrom launch t phase.Gone before after done = (after ≡ before) × (done ≡ did.ProcessGone)
 StepsFrom launch t phase.Lost before after done = (after ≡ before) × (done ≡ did.NoMemory)

@@ -8,7 +8,7 @@ pub trait Gate {
     fn turning(&self, worker: u32, pid: Pid, tid: Tid);
 
     /// Before a thread's call, trap or expiry becomes an entry of the history, and before a thread that waits is tried, whose wake is an
-    /// entry where the thread is ready. The process has `left` turns left.
+    /// entry where the thread is ready. A proc_fork passes it twice: as it is read, and before it is made. The process has `left` turns left.
     fn before(&self, worker: u32, pid: Pid, tid: Tid, left: u64);
 
     /// After one of these was answered.

@@ -6,15 +6,15 @@ ghost use Rattle.call_codec.specs.Bounded.{IsBounded};
 ghost use Rattle.kernel_cell.specs.declared.results.EndBy.TheVariants as end_by;
 ghost use Rattle.process_cell.specs.declared.results.Phase.TheVariants as phase;
 ghost use Rattle.process_cell.specs.Process.{IsDue, RunsIn, WaitsIn, new_pass, first_standing};
-ghost use Rattle.process_cell.specs.Steps.{IsCalled, IsFinished, IsEnded, IsRun, IsStepped, turned_standing};
+ghost use Rattle.process_cell.specs.Steps.{IsCalled, IsForked, IsFinished, IsEnded, IsRun, IsStepped, turned_standing};
 
 use crate::gate::Gate;
 use crate::place::{Place, leave_place, make_place};
 use crate::results::{
-    Did, Doing, Phase, did_after_end, gives_way, may_wake, phase_after, phase_after_turn,
-    take_acted, take_woken,
+    Did, Doing, Phase, did_after_end, did_after_fork, gives_way, may_wake, one_running,
+    phase_after, phase_after_turn, take_acted, take_woken,
 };
-use abi_types::{Pid, Signal, Tid, TidList};
+use abi_types::{Call, Pid, Signal, Tid, TidList};
 use guest_process::{FIRST_THREAD, Guest};
 use kernel_cell::{Cell, EndBy, Naming, Pass};
 use maps::NumMap;
@@ -39,7 +39,7 @@ pub struct Process<J: Naming> {
 impl<J: Naming> Model for Process<J> {
     ghost use Rattle.process_cell.specs.Standing.{Standing};
     ghost use Rattle.process_cell.specs.Codes.{standing_code};
-    ghost use Rattle.process_cell.specs.Process.{standing_of, Tied};
+    ghost use Rattle.process_cell.specs.Process.{standing_of, IsTied};
 
     ghost Value = { Standing };
 
@@ -47,7 +47,7 @@ impl<J: Naming> Model for Process<J> {
 
     ghost view = { λ p. standing_of p.pass p.threads p.turns p.guest p.phase };
 
-    ghost invariant = { λ p. Tied J.launch p.pass p.threads p.turns p.guest p.phase };
+    ghost invariant = { λ p. IsTied J.launch p.pass p.threads p.turns p.guest p.phase };
 }
 
 // Whether a thread gives way after its call: where it asked for that, and where the call may have woken others and some are to be looked at.
@@ -137,6 +137,10 @@ impl<J: Naming> Process<J> {
             self.phase = Phase::Lost;
             return Did::NoMemory;
         };
+        if let Call::ProcFork { .. } = call {
+            self.phase = Phase::Forks(tid);
+            return Did::Forks;
+        }
         let made = match make_place(rt, cell, &mut self.pass, &mut self.threads, &call) {
             Place::Made(made) => made,
             Place::Gone => {
@@ -157,6 +161,66 @@ impl<J: Naming> Process<J> {
         let did = take_acted(&mut self.threads, tid, yields, acted);
         self.phase = phase_after(&did);
         did
+    }
+
+    // The proc_fork at which the last turn, of this thread, ended, and the child, where one was made. What the child's thread does is noted
+    // before it, since the call's entry stands whatever comes after it.
+    fn make_child<R: Wait>(
+        &mut self,
+        rt: &R,
+        alloc: Global,
+        cell: &Cell<J>,
+        tid: Tid,
+    ) -> (Did, Option<Process<J>>)
+        requires { self.old.phase ≡ phase.Forks tid }
+        ensures same { self.new.pid ≡ self.old.pid }
+        ensures forked { IsForked tid self.old self.new result.0 result.1 }
+    {
+        let Some(threads) = one_running(alloc, tid) else {
+            self.phase = Phase::Lost;
+            return (Did::NoMemory, None);
+        };
+        let left = self.left();
+        let call = Call::ProcFork { left };
+        let turns = mem::replace(&mut self.turns, TidList::new(alloc));
+        let forked = cell.fork(rt, &mut self.pass, alloc, tid, turns, call, &mut self.guest);
+        let did = did_after_fork(&forked);
+        self.phase = phase_after(&did);
+        match forked {
+            Ok(Some((pass, guest))) => {
+                let child = Process {
+                    guest,
+                    threads,
+                    turns: TidList::new(alloc),
+                    phase: Phase::Lives,
+                    pass,
+                };
+                (did, Some(child))
+            }
+            Ok(None) => (did, None),
+            Err(_) => (did, None),
+        }
+    }
+
+    /// The proc_fork at which the last turn, of this thread, ended: the kernel answers it, and it is an entry of the history. With it comes
+    /// the child, where one was made. The gate is passed before it and after it.
+    pub fn fork<R: Wait, G: Gate>(
+        &mut self,
+        rt: &R,
+        alloc: Global,
+        cell: &Cell<J>,
+        gate: &G,
+        worker: u32,
+        tid: Tid,
+    ) -> (Did, Option<Process<J>>)
+        requires { self.old.phase ≡ phase.Forks tid }
+        ensures same { self.new.pid ≡ self.old.pid }
+        ensures forked { IsForked tid self.old self.new result.0 result.1 }
+    {
+        gate.before(worker, self.pid(), tid, self.left());
+        let (did, child) = self.make_child(rt, alloc, cell, tid);
+        gate.after(worker, self.pid(), tid);
+        (did, child)
     }
 
     /// The wake of a thread, which waits in a call: where it is ready, its call is answered, and that is an entry of the history, after which
@@ -234,6 +298,7 @@ impl<J: Naming> Process<J> {
                 None => Did::ThreadGone,
             },
             Phase::Calls(last) => self.call(rt, alloc, cell, last),
+            Phase::Forks(_) => Did::Forks,
             Phase::Traps(last, signal) => self.trap(rt, alloc, cell, last, signal),
             Phase::Gone => Did::ProcessGone,
             Phase::Lost => Did::NoMemory,
@@ -313,6 +378,7 @@ impl<J: Naming> Process<J> {
             Phase::Calls(_) | Phase::Traps(..) => {
                 self.pass_gate(rt, alloc, cell, gate, worker, tid)
             }
+            Phase::Forks(_) => Did::Forks,
             Phase::Gone => Did::ProcessGone,
             Phase::Lost => Did::NoMemory,
         }

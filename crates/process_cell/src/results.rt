@@ -1,13 +1,15 @@
 //! In which phase a process is, what its threads do, and what came of a step of one.
-ghost use Rattle.std.specs.Prelude.{◌≡◌, IsSome};
+ghost use Rattle.std.specs.Prelude.{◌≡◌, ◌≢◌, IsSome, IfSome, IsNone};
 ghost use Rattle.std.specs.FinMap as map;
-ghost use Rattle.process_cell.specs.Phases.{phase_after, phase_after_turn, threads_after_act, threads_after_wake, did_after_act, did_after_wake, did_after_end, is_yield};
+ghost use Rattle.process_cell.specs.Phases.{phase_after, phase_after_turn, alone, threads_after_act, threads_after_wake, did_after_act, did_after_fork, did_after_wake, did_after_end, is_yield, IsAloneAt};
 ghost use Rattle.process_cell.specs.Places.{HasPlaceFor};
 
 use abi_types::{Call, Signal, Tid};
-use kernel_cell::{Acted, Stopped, Woken};
+use guest_process::Guest;
+use kernel_cell::{Acted, Naming, NotMade, Pass, Stopped, Woken};
 use maps::NumMap;
 use rv_interp::TurnEnd;
+use std::alloc::Global;
 
 /// In which phase a process is.
 #[derive(Clone, Copy)]
@@ -16,6 +18,8 @@ pub enum Phase {
     Lives,
     /// The last turn, of this thread, ended at an ECALL, and the call is to be made.
     Calls(Tid),
+    /// The last turn, of this thread, ended at the ECALL of a proc_fork, which is to be made.
+    Forks(Tid),
     /// The last turn, of this thread, ended by a trap, which ends the process.
     Traps(Tid, Signal),
     /// The process has ended.
@@ -42,6 +46,10 @@ pub enum Did {
     Yields,
     /// It goes on, and made the thread with this number.
     Started(Tid),
+    /// It stands at a proc_fork, which `Process::fork` makes.
+    Forks,
+    /// It goes on in another program, and no other thread is left.
+    Begun,
     /// It waits in the call that it made.
     Parks,
     /// It waits on, and nothing was done.
@@ -70,10 +78,15 @@ pub(crate) fn phase_after(did: &Did) -> Phase
     ensures { result ≡ phase_after did.now }
 {
     match did {
-        Did::Runs | Did::Yields | Did::Started(_) | Did::Parks | Did::NotReady | Did::ThreadGone =>
-            Phase::Lives,
+        Did::Runs
+        | Did::Yields
+        | Did::Started(_)
+        | Did::Begun
+        | Did::Parks
+        | Did::NotReady
+        | Did::ThreadGone => Phase::Lives,
         Did::ProcessGone => Phase::Gone,
-        Did::NoMemory => Phase::Lost,
+        Did::Forks | Did::NoMemory => Phase::Lost,
     }
 }
 
@@ -95,7 +108,42 @@ pub(crate) fn may_wake(call: &Call) -> bool {
             | Call::SockRecv { .. }
             | Call::SockSend { .. }
             | Call::SockShutdown { .. }
+            | Call::ProcExec { .. }
     )
+}
+
+// A thread that takes turns, alone. `None` where memory ran out.
+pub(crate) fn one_running(alloc: Global, tid: Tid) -> Option<NumMap<Doing>>
+    ensures { IfSome result (λ threads. threads ≡ alone tid) }
+{
+    let mut threads = NumMap::new(alloc);
+    match threads.insert(u64::from(tid.0), Doing::Runs) {
+        Ok(_) => Some(threads),
+        Err(_) => None,
+    }
+}
+
+// The least number that isn't this one, if there is one.
+fn first_other(threads: &NumMap<Doing>, key: u64) -> Option<u64>
+    ensures some { IfSome result (λ other. other ≢ key × IsSome (map.get threads.now other)) }
+    ensures none { IsNone result → IsAloneAt key threads.now }
+{
+    match threads.first_from(0) {
+        Some(first) if first == key => threads.first_after(key),
+        other => other,
+    }
+}
+
+// Takes out all threads but this one, which takes turns. It takes no memory.
+fn keep_only(threads: &mut NumMap<Doing>, tid: Tid)
+    requires { IsSome (map.get threads.old tid) }
+    ensures { threads.new ≡ alone tid }
+{
+    let key = u64::from(tid.0);
+    while let Some(other) = first_other(threads, key) {
+        threads.remove(other);
+    }
+    threads.replace(key, Doing::Runs);
 }
 
 // What the threads of a process do after a call of one of them, and what came of it. A thread that was made has its place.
@@ -119,8 +167,12 @@ pub(crate) fn take_acted(threads: &mut NumMap<Doing>, tid: Tid, yields: bool, ac
             threads.remove(u64::from(tid.0));
             Did::ThreadGone
         }
+        Acted::Begins => {
+            keep_only(threads, tid);
+            Did::Begun
+        }
         Acted::Ends | Acted::Gone => Did::ProcessGone,
-        Acted::NoMemory => Did::NoMemory,
+        Acted::Lost | Acted::NoMemory => Did::NoMemory,
     }
 }
 
@@ -138,6 +190,18 @@ pub(crate) fn take_woken(threads: &mut NumMap<Doing>, tid: Tid, woken: Woken) ->
         Woken::NotReady => Did::NotReady,
         Woken::Ends | Woken::Gone => Did::ProcessGone,
         Woken::NoMemory => Did::NoMemory,
+    }
+}
+
+// What came of a proc_fork. A thread that made a child gives way.
+pub(crate) fn did_after_fork<J: Naming>(forked: &Result<Option<(Pass<J>, Guest)>, NotMade>) -> Did
+    ensures { result ≡ did_after_fork forked.now }
+{
+    match forked {
+        Ok(Some(_)) => Did::Yields,
+        Ok(None) => Did::Runs,
+        Err(NotMade::Gone) => Did::ProcessGone,
+        Err(NotMade::NoMemory) => Did::NoMemory,
     }
 }
 

@@ -2,7 +2,7 @@
 --     called_is      a step of a call that registers encode leaves what its answer says
 --     woken_is      and so does a wake
 --     stays_on      a thread of a process that lives on is there after its call, unless that ends it
---     runs_on      a runnable thread of a process that lives on is runnable after a call with a reply, unless that ends it
+--     runs_on      a runnable thread of a process that lives on is runnable after a call with a reply, unless that ends it, or the others
 --     ended_by      a process that is ended is not live
 use Rattle.std.proofs.Common.{◌≡◌, ◌≢◌, inl, inr, ℕ, true, false, Option, None, Some, IsSome, is_some, refl, sym, ap, subst, ◌∙◌}
 use Rattle.std.proofs.lemmas.Bool.Decides.{eqb_tells}
@@ -25,13 +25,12 @@ use Rattle.kernel_model.specs.Outcome.{is_parked}
 use Rattle.kernel_model.specs.State.{State, thread_of}
 use Rattle.kernel_model.specs.Step.{failed, step_state, IsStep, end_state}
 use Rattle.kernel_model.proofs.Refusals.{IsNoLackOf, reply_no_lack}
-use Rattle.kernel_model.specs.Threads.{ends_caller, IsCallerAfter}
+use Rattle.kernel_model.specs.Threads.{ends_caller, ends_others, IsCallerAfter}
 use Rattle.kernel_model.specs.Waits.{may_wait, resumed, waiting}
 use Rattle.kernel_model.specs.Wakes.{IsWake}
 use Rattle.kernel_model.proofs.Tests.{not_true}
 use Rattle.kernel_model.proofs.WaitedCalls.{waited_is_no_lack}
 use Rattle.kernel_model.proofs.Steps.{step_moves_only, end_ends_only}
-use Rattle.kernel_model.proofs.Threads.{keeps_others}
 use Rattle.guest_memory.specs.Page.{Pages}
 use Rattle.call_codec.specs.Arguments.{args_of}
 use Rattle.run_model.specs.Legal.{IsRunnable}
@@ -55,9 +54,9 @@ called_by constants S who call (answer.Reply reply) T none (inr lacking) =
     lacking.2 ∙ ap (called_state constants S who call) (sym lacking.1)
 
 -- a step of a call that registers encode leaves what its answer says
-pub called_is : (m : Pages) (r : Registers) (constants : Constants) (S : State) (who : Who) (given : Answer) (T : State)
-    → IsStep constants S who (args_of m r) given T → T ≡ called_state constants S who (args_of m r) given
-called_is m r constants S who given T step = called_by constants S who (args_of m r) given T (args_no_lack m r) step
+pub called_is : (m : Pages) (r : Registers) (left : ℕ) (constants : Constants) (S : State) (who : Who) (given : Answer) (T : State)
+    → IsStep constants S who (args_of m r left) given T → T ≡ called_state constants S who (args_of m r left) given
+called_is m r left constants S who given T step = called_by constants S who (args_of m r left) given T (args_no_lack m r left) step
 
 -- and so does a wake of a call in which a thread may wait
 pub woken_is : (constants : Constants) (S : State) (who : Who) (call : Call) (given : WakeIn) (answered : Answer) (T : State) → may_wait call ≡ true
@@ -88,15 +87,15 @@ caller_runs waits (answer.Reply reply) before after replies same runs = same ∙
 
 -- a runnable thread of a process that is live after a call with a reply, which doesn't end that thread, is runnable then
 pub runs_on : (constants : Constants) (S : State) (who : Who) (call : Call) (given : Answer) (T : State) (t : ℕ) → IsStep constants S who call given T
-    → is_parked given ≡ false → (t ≡ who.tid → ends_caller call given ≡ false) → get T.statuses who.pid ≡ Some Live → IsRunnable S who.pid t
-    → IsRunnable T who.pid t
-runs_on constants S who call given T t step replies lasts live runs =
+    → is_parked given ≡ false → (t ≡ who.tid → ends_caller call given ≡ false) → (t ≢ who.tid → ends_others call given ≡ false)
+    → get T.statuses who.pid ≡ Some Live → IsRunnable S who.pid t → IsRunnable T who.pid t
+runs_on constants S who call given T t step replies lasts stay live runs =
     let left = (step_moves_only constants S who call given T step).threads live in
     elim (eqb_tells t who.tid) [
       | inl is ↦ subst (IsRunnable T who.pid) (sym is.1)
           (caller_runs (waiting constants call who.since) given (thread_of S who.pid who.tid) (thread_of T who.pid who.tid) replies
           (left.caller (lasts is.1)) (subst (IsRunnable S who.pid) is.1 runs))
-      | inr other ↦ left.others t other.1 (subst IsSome (sym runs) refl) (keeps_others constants S who call given T step) ∙ runs
+      | inr other ↦ left.others t other.1 (subst IsSome (sym runs) refl) (stay other.1) ∙ runs
     ]
 
 -- ---- the end of a process

@@ -138,9 +138,10 @@ idle_changes_clock S part h = refl
 act_confined : (w : World) (who : Who) (guest : Guest) (ts : List ℕ) (a : Act) → IsValid w.state → FitsAct w.constants w.state who guest ts a
     → ActIsConfined w.constants w.state who a (acted w who a).state
 act_confined w who guest ts (act.Call call given) valid fits =
+    let after : Guest = turned_guest_by ts guest in
     call_confined w.constants w.state who call given (called_state w.constants w.state who call given) valid
-    (subst IsNotDeniedEarly (sym fits.0.1) (args_not_denied (turned_guest_by ts guest).memory (registers_of (turned_guest_by ts guest) who.tid)))
-    (subst (λ (c : Call). ¬ IsBadfBefore c) (sym fits.0.1) (args_not_badf (turned_guest_by ts guest).memory (registers_of (turned_guest_by ts guest) who.tid)))
+    (subst IsNotDeniedEarly (sym fits.0.1) (args_not_denied after.memory (registers_of after who.tid) after.left))
+    (subst (λ (c : Call). ¬ IsBadfBefore c) (sym fits.0.1) (args_not_badf after.memory (registers_of after who.tid) after.left))
     fits.1
 act_confined w who guest ts (act.Wake call given answered) valid fits =
     wake_confined w.constants w.state who call given answered (woken_state w.constants w.state who call given answered) valid

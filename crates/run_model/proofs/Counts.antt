@@ -1,9 +1,9 @@
 -- How many threads and random words processes have counted.
 --     act_counts      what an act adds to its process's counts
 --     entry_counts, all_counts      no entry takes from a count
---     entry_bound, all_bound      nor does one add more than its turns allow
+--     entry_bound, all_bound      they are no more than the turns that were taken allow
 --     start_counts      the counts at the start
-use Rattle.std.proofs.Common.{◌≡◌, ◌≢◌, ◌⊎◌, inl, inr, ℕ, ◌+◌, ◌*◌, ◌≤◌, true, false, List, [], ◌∷◌, length, Option, Some, None, refl, sym, ap, subst, ◌∙◌, arith}
+use Rattle.std.proofs.Common.{◌≡◌, ◌≢◌, ◌⊎◌, inl, inr, ℕ, ◌+◌, ◌*◌, ◌≤◌, true, false, Contains, List, [], ◌∷◌, length, Option, Some, None, refl, sym, ap, subst, ◌∙◌, arith}
 use Rattle.std.proofs.lemmas.Bool.Decides.{eqb_tells}
 use Rattle.std.specs.Option.{option_map}
 use Rattle.std.specs.Ordering.{nat_cmp}
@@ -12,7 +12,7 @@ use Rattle.std.specs.FinMap.{empty, get, get-empty}
 use Rattle.clock_random.specs.Random.{words_of}
 use Rattle.abi_base.specs.declared.signal.Signal.TheVariants.{Xcpu}
 use Rattle.abi_types.specs.declared.call.Call.{Call}
-use Rattle.abi_types.specs.declared.call.Call.TheVariants.{RandomGet}
+use Rattle.abi_types.specs.declared.call.Call.TheVariants.{ProcExec, RandomGet}
 use Rattle.abi_types.specs.declared.counts.Counts.{Counts}
 use Rattle.abi_types.specs.declared.reply.Answer.{Answer}
 use Rattle.abi_types.specs.declared.status.Status.TheVariants.{Killed}
@@ -24,7 +24,7 @@ use Rattle.run_types.specs.declared.launch.Launch.{Launch}
 use Rattle.kernel_model.specs.Families.ProcessCalls.{ended_process}
 use Rattle.kernel_model.specs.Laws.{HasSameProcess, IsKilled}
 use Rattle.kernel_model.specs.Start.{first_process}
-use Rattle.kernel_model.specs.State.{ProcessState, State, counts_in}
+use Rattle.kernel_model.specs.State.{ProcessState, State, counts_in, no_counts}
 use Rattle.kernel_model.specs.Threads.{is_done, makes_thread, threads_made, words_drawn}
 use Rattle.kernel_model.specs.Valid.{IsValid}
 use Rattle.kernel_model.specs.Waits.{may_wait, MayWait}
@@ -37,8 +37,12 @@ use Rattle.call_codec.proofs.ThreadOutputs.{random_written}
 use Rattle.run_model.specs.Ends.{turns_taken}
 use Rattle.run_model.specs.Legal.{FitsAct, Fits, FollowsFrom}
 use Rattle.run_model.specs.World.{World, Guest, acted, apply, apply_all, called_state, guest_of, registers_of, start_world, turned, turned_guest_by, who_of, woken_state}
+use Rattle.run_model.specs.Own.{born}
+use Rattle.run_model.proofs.Births.{born_is_made}
+use Rattle.run_model.proofs.BornParts.{is_child_of}
 use Rattle.run_model.proofs.Ends.{apply_process}
 use Rattle.run_model.proofs.Histories.{apply_is}
+use Rattle.run_model.proofs.Own.{born_or_not}
 use Rattle.run_model.proofs.Potentials.{last_take}
 use Rattle.run_model.proofs.Worlds.{apply_valid}
 
@@ -105,8 +109,35 @@ left_counts : (S T : State) (q : ℕ) → HasSameProcess T S q ⊎ IsKilled S T 
 left_counts S T q (inl same) = ap counts_in same.1
 left_counts S T q (inr killed) = ap counts_in killed.0.1 ∙ killed_counts (get S.processes q)
 
-other_counts : (w : World) (e : Entry) (q : ℕ) → Fits w e → q ≢ e.pid → counts_of (apply w e) q ≡ counts_of w q
-other_counts w e q fits apart = left_counts w.state (apply w e).state q (apply_process w e q fits apart)
+other_counts : (w : World) (e : Entry) (q : ℕ) → IsValid w.state → Fits w e → q ≢ e.pid → ¬ Contains (born e.act) q → counts_of (apply w e) q ≡ counts_of w q
+other_counts w e q valid fits apart unborn = left_counts w.state (apply w e).state q (apply_process w e q valid fits apart unborn)
+
+-- a child has counted its parent's threads, and drawn nothing
+record IsCounted (before parent after : Counts) : Type 0 where
+  fresh : before ≡ no_counts
+  threads : after.threads ≡ parent.threads
+  words : after.words ≡ 0
+
+act_born : (w : World) (who : Who) (guest : Guest) (ts : List ℕ) (a : Act) (q : ℕ) → IsValid w.state → FitsAct w.constants w.state who guest ts a
+    → Contains (born a) q → IsCounted (counts_of w q) (counts_of w who.pid) (counts_in (get (acted w who a).state.processes q))
+act_born w who guest ts (act.Call call given) q valid fits there =
+    let T = called_state w.constants w.state who call given in
+    let is = is_child_of w.constants w.state who call given T q valid fits.1 (born_is_made w.constants w.state who call given T q fits.1 there) in
+    record {
+      fresh = ap counts_in is.new;
+      threads = ap (λ o. (counts_in o).threads) is.child ∙ sym (ap (λ o. (counts_in o).threads) is.parent);
+      words = ap (λ o. (counts_in o).words) is.child;
+    }
+act_born w who guest ts (act.Wake call given answered) q valid fits there = absurd (omega (arith, there.1))
+act_born w who guest ts (act.Trap signal) q valid fits there = absurd (omega (arith, there.1))
+act_born w who guest ts act.Expire q valid fits there = absurd (omega (arith, there.1))
+act_born w who guest ts act.Idle q valid fits there = absurd (omega (arith, there.1))
+
+entry_born : (w : World) (e : Entry) (q : ℕ) → IsValid w.state → Fits w e → Contains (born e.act) q
+    → IsCounted (counts_of w q) (counts_of w e.pid) (counts_of (apply w e) q)
+entry_born w e q valid fits there =
+    subst (λ (v : World). IsCounted (counts_of w q) (counts_of w e.pid) (counts_of v q)) (sym (apply_is w e))
+    (act_born (turned w e.pid e.turns) (who_of w.state e) (guest_of w e.pid) e.turns e.act q valid fits.act there)
 
 -- ---- no count falls
 
@@ -120,8 +151,8 @@ same_no_less before after same =
     let words : after.words ≡ before.words = ap (λ (c : Counts). c.words) same in
     record { threads = omega (arith, threads); words = omega (arith, words) }
 
-pub entry_counts : (w : World) (e : Entry) (q : ℕ) → Fits w e → NoLess (counts_of w q) (counts_of (apply w e) q)
-entry_counts w e q fits =
+pub entry_counts : (w : World) (e : Entry) (q : ℕ) → IsValid w.state → Fits w e → NoLess (counts_of w q) (counts_of (apply w e) q)
+entry_counts w e q valid fits =
     elim (eqb_tells q e.pid) [
       | inl is ↦ (
           let adds = own_counts w e fits in
@@ -129,15 +160,22 @@ entry_counts w e q fits =
           let words = adds.words in
           subst (λ p. NoLess (counts_of w p) (counts_of (apply w e) p)) (sym is.1)
           (record { threads = omega (arith, threads); words = omega (arith, words) }))
-      | inr apart ↦ same_no_less (counts_of w q) (counts_of (apply w e) q) (other_counts w e q fits apart.1)
+      | inr apart ↦ elim (born_or_not e.act q) [
+        | inl there ↦ (
+            let fresh = (entry_born w e q valid fits there).fresh in
+            let threads : (counts_of w q).threads ≡ 0 = ap (λ (c : Counts). c.threads) fresh in
+            let words : (counts_of w q).words ≡ 0 = ap (λ (c : Counts). c.words) fresh in
+            record { threads = omega (arith, threads); words = omega (arith, words) })
+        | inr unborn ↦ same_no_less (counts_of w q) (counts_of (apply w e) q) (other_counts w e q valid fits apart.1 unborn)
+      ]
     ]
 
-pub all_counts : (w : World) (history : List Entry) (q : ℕ) → FollowsFrom w history → NoLess (counts_of w q) (counts_of (apply_all w history) q)
+pub all_counts : (w : World) (history : List Entry) (q : ℕ) → IsValid w.state → FollowsFrom w history → NoLess (counts_of w q) (counts_of (apply_all w history) q)
 unfolding FollowsFrom apply_all
-all_counts w [] q follows = record { threads = omega arith; words = omega arith }
-all_counts w (e ∷ history) q follows =
-    let here = entry_counts w e q follows.0 in
-    let later = all_counts (apply w e) history q follows.1 in
+all_counts w [] q valid follows = record { threads = omega arith; words = omega arith }
+all_counts w (e ∷ history) q valid follows =
+    let here = entry_counts w e q valid follows.0 in
+    let later = all_counts (apply w e) history q (apply_valid w e follows.0 valid) follows.1 in
     let threads = here.threads in
     let more = later.threads in
     let words = here.words in
@@ -155,6 +193,8 @@ few_words (RandomGet n) given few =
       | true ↦ (let most = few n refl in omega (arith, most))
       | false ↦ omega arith
     ]
+few_words (ProcExec fd bytes fds) given few =
+    elim (is_done given) as (λ b. (if b then 16 else 0) ≤ 16384) [ true ↦ omega arith | false ↦ omega arith ]
 few_words _ given few = omega arith
 
 -- an act adds one thread at most, and 16,384 words, where its thread took a turn
@@ -170,7 +210,7 @@ act_few w who ts (act.Call call given) valid fits =
     let took = (last_take w.state who.pid (guest_of w who.pid) ts who.tid Ecall fits.0.0).1 in
     let one = one_thread call given in
     let after = turned_guest_by ts (guest_of w who.pid) in
-    let few = few_words call given (λ n is. (random_written after.memory (registers_of after who.tid) n (sym fits.0.1 ∙ is)).0) in
+    let few = few_words call given (λ n is. (random_written after.memory (registers_of after who.tid) after.left n (sym fits.0.1 ∙ is)).0) in
     record { threads = omega (arith, took, one); words = omega (arith, took, few) }
 act_few w who ts (act.Wake call given answered) valid fits =
     let may : may_wait call ≡ true = subst MayWait fits.0.1.1 (valid.nearly.waits who.pid who.tid) in
@@ -180,12 +220,18 @@ act_few w who ts act.Expire valid fits = none_few act.Expire (length ts) refl re
 act_few w who ts act.Idle valid fits = none_few act.Idle (length ts) refl refl
 
 -- no more than so many turns allow
-pub record Within (before after : Counts) (turns : ℕ) : Type 0 where
-  pub threads : after.threads ≤ before.threads + turns
-  pub words : after.words ≤ before.words + 16384 * turns
+pub record Within (counts : Counts) (turns : ℕ) : Type 0 where
+  pub threads : counts.threads ≤ 1 + turns
+  pub words : counts.words ≤ 16 + 16384 * turns
 
-entry_bound : (w : World) (e : Entry) (q : ℕ) → IsValid w.state → Fits w e → Within (counts_of w q) (counts_of (apply w e) q) (length e.turns)
-entry_bound w e q valid fits =
+abbrev AllWithin : World → ℕ → Type 0
+AllWithin w turns = (q : ℕ) → Within (counts_of w q) turns
+
+entry_bound : (w : World) (e : Entry) (n : ℕ) → IsValid w.state → Fits w e → AllWithin w n → AllWithin (apply w e) (n + length e.turns)
+entry_bound w e n valid fits before q =
+    let own = before e.pid in
+    let counted = own.threads in
+    let drawn = own.words in
     elim (eqb_tells q e.pid) [
       | inl is ↦ (
           let adds = own_counts w e fits in
@@ -194,27 +240,36 @@ entry_bound w e q valid fits =
           let words = adds.words in
           let most = few.threads in
           let many = few.words in
-          subst (λ p. Within (counts_of w p) (counts_of (apply w e) p) (length e.turns)) (sym is.1)
-          (record { threads = omega (arith, threads, most); words = omega (arith, words, many) }))
-      | inr apart ↦ (
-          let same = other_counts w e q fits apart.1 in
-          let threads : (counts_of (apply w e) q).threads ≡ (counts_of w q).threads = ap (λ (c : Counts). c.threads) same in
-          let words : (counts_of (apply w e) q).words ≡ (counts_of w q).words = ap (λ (c : Counts). c.words) same in
-          record { threads = omega (arith, threads); words = omega (arith, words) })
+          subst (λ p. Within (counts_of (apply w e) p) (n + length e.turns)) (sym is.1)
+          (record { threads = omega (arith, threads, most, counted); words = omega (arith, words, many, drawn) }))
+      | inr apart ↦ elim (born_or_not e.act q) [
+        | inl there ↦ (
+            let is = entry_born w e q valid fits there in
+            let threads = is.threads in
+            let words = is.words in
+            record { threads = omega (arith, threads, counted); words = omega (arith, words) })
+        | inr unborn ↦ (
+            let same = other_counts w e q valid fits apart.1 unborn in
+            let here = before q in
+            let first = here.threads in
+            let second = here.words in
+            let threads : (counts_of (apply w e) q).threads ≡ (counts_of w q).threads = ap (λ (c : Counts). c.threads) same in
+            let words : (counts_of (apply w e) q).words ≡ (counts_of w q).words = ap (λ (c : Counts). c.words) same in
+            record { threads = omega (arith, threads, first); words = omega (arith, words, second) })
+      ]
     ]
 
-pub all_bound : (w : World) (history : List Entry) (q : ℕ) → IsValid w.state → FollowsFrom w history
-    → Within (counts_of w q) (counts_of (apply_all w history) q) (turns_taken history)
+bound_on : (w : World) (history : List Entry) (n : ℕ) → IsValid w.state → FollowsFrom w history → AllWithin w n
+    → AllWithin (apply_all w history) (n + turns_taken history)
 unfolding FollowsFrom apply_all
-all_bound w [] q valid follows = record { threads = omega arith; words = omega arith }
-all_bound w (e ∷ history) q valid follows =
-    let here = entry_bound w e q valid follows.0 in
-    let later = all_bound (apply w e) history q (apply_valid w e follows.0 valid) follows.1 in
-    let threads = here.threads in
-    let more = later.threads in
-    let words = here.words in
-    let further = later.words in
-    record { threads = omega (arith, threads, more); words = omega (arith, words, further) }
+bound_on w [] n valid follows before q =
+    let threads = (before q).threads in let words = (before q).words in record { threads = omega (arith, threads); words = omega (arith, words) }
+bound_on w (e ∷ history) n valid follows before q =
+    let later =
+    bound_on (apply w e) history (n + length e.turns) (apply_valid w e follows.0 valid) follows.1 (entry_bound w e n valid follows.0 before) q in
+    let threads = later.threads in
+    let words = later.words in
+    record { threads = omega (arith, threads); words = omega (arith, words) }
 
 -- ---- the start
 
@@ -244,3 +299,15 @@ start_counts launch p =
 
 pub start_words : (launch : Launch) → (counts_of (start_world launch) 0).words ≡ 16
 start_words launch = ap (λ (c : Counts). c.words) (start_own launch)
+
+pub all_bound : (launch : Launch) (history : List Entry) (q : ℕ) → IsValid (start_world launch).state → FollowsFrom (start_world launch) history
+    → Within (counts_of (apply_all (start_world launch) history) q) (turns_taken history)
+all_bound launch history q valid follows =
+    let later = bound_on (start_world launch) history 0 valid follows (λ p. (
+    let start = start_counts launch p in
+    let first = start.0 in
+    let second = start.1 in
+    record { threads = omega (arith, first); words = omega (arith, second) })) q in
+    let threads = later.threads in
+    let words = later.words in
+    record { threads = omega (arith, threads); words = omega (arith, words) }

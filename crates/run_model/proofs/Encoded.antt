@@ -6,7 +6,7 @@ use Rattle.std.specs.List.{AllByRecursion}
 use Rattle.abi_types.specs.declared.call.Call.{Call}
 use Rattle.abi_types.specs.declared.call.Call.TheVariants.{FileSymlink, MemMap, Memory, Refused, Poll}
 use Rattle.abi_base.specs.declared.errno.Errno.{Errno}
-use Rattle.abi_base.specs.declared.errno.Errno.TheVariants.{Success, Fault, Inval, Nobufs, Nomem, Nosys, Notcapable, Notsup}
+use Rattle.abi_base.specs.declared.errno.Errno.TheVariants.{Success, Fault, Inval, Nobufs, Nomem, Nosys, Notcapable, Notsup, TooBig}
 use Rattle.abi_types.specs.declared.needed.Needed.{Needed}
 use Rattle.abi_types.specs.declared.place.Place.{Place}
 use Rattle.abi_types.specs.declared.place.Place.TheVariants as place
@@ -72,6 +72,7 @@ listed_plain Fault listed = refl
 listed_plain Inval listed = refl
 listed_plain Nosys listed = refl
 listed_plain Notsup listed = refl
+listed_plain TooBig listed = refl
 listed_plain _ listed = absurd listed
 
 -- what a call about pages that are there answers
@@ -101,10 +102,10 @@ either_map : (zeros : Bool) (place : Place) (length offset : ℕ) (row : Needed)
 either_map true place length offset row h = h
 either_map false place length offset row h = h
 
-map_plain : (m : Pages) (r : Registers) (place : Place) (length prot flags fd offset : ℕ) → IsEncodedBy m r (MemMap place length prot flags fd offset)
+map_plain : (m : Pages) (r : Registers) (left : ℕ) (place : Place) (length prot flags fd offset : ℕ) → IsEncodedBy m r left (MemMap place length prot flags fd offset)
     → are_plain (errors_of (MemMap place length prot flags fd offset)) ≡ true
 unfolding read_of
-map_plain m r place length prot flags fd offset is =
+map_plain m r left place length prot flags fd offset is =
     let may = passed (may_map (argument r 0) (argument r 1) (low (argument r 2)) (low (argument r 3)) (argument r 5)) _ (MemMap place length prot flags fd offset) is in
     let placed : place_of m (argument r 0) (low (argument r 3)) (pages_in (argument r 1)) ≡ place = cc may.2 in
     either_map (is_anonymous flags) place length offset (map_row fd prot)
@@ -127,21 +128,22 @@ poll_plain (first ∷ second ∷ rest) = refl
 
 -- ---- all of them
 
-call_plain : (m : Pages) (r : Registers) (call : Call) → IsEncodedBy m r call → are_plain (errors_of call) ≡ true
-call_plain m r (MemMap place length prot flags fd offset) is = map_plain m r place length prot flags fd offset is
-call_plain m r (Memory it errno) is = memory_plain errno (memory_listed m r it errno is)
-call_plain m r (Refused it errno) is = listed_plain errno is
-call_plain m r (FileSymlink text fd path) is = symlink_plain (text_error text) text path
-call_plain m r (Poll subscriptions) is = poll_plain subscriptions
-call_plain m r call is = refl
+call_plain : (m : Pages) (r : Registers) (left : ℕ) (call : Call) → IsEncodedBy m r left call → are_plain (errors_of call) ≡ true
+call_plain m r left (MemMap place length prot flags fd offset) is = map_plain m r left place length prot flags fd offset is
+call_plain m r left (Memory it errno) is = memory_plain errno (memory_listed m r left it errno is)
+call_plain m r left (Refused it errno) is = listed_plain errno is
+call_plain m r left (FileSymlink text fd path) is = symlink_plain (text_error text) text path
+call_plain m r left (Poll subscriptions) is = poll_plain subscriptions
+call_plain m r left call is = refl
 
-pub args_plain : (m : Pages) (r : Registers) → IsPlainCall (args_of m r)
-args_plain m r = all_plain (errors_of (args_of m r)) (call_plain m r (args_of m r) (args_encoded m r))
+pub args_plain : (m : Pages) (r : Registers) (left : ℕ) → IsPlainCall (args_of m r left)
+args_plain m r left = all_plain (errors_of (args_of m r left)) (call_plain m r left (args_of m r left) (args_encoded m r left))
 
 -- no error that a call which registers encode answers of its own is lack of memory
-pub args_no_lack : (m : Pages) (r : Registers) → IsNoLackOf (args_of m r)
-args_no_lack m r = all_weaker IsPlain (λ errno. errno ≢ Nomem) (λ errno h. h.0) (errors_of (args_of m r)) (args_plain m r)
+pub args_no_lack : (m : Pages) (r : Registers) (left : ℕ) → IsNoLackOf (args_of m r left)
+args_no_lack m r left = all_weaker IsPlain (λ errno. errno ≢ Nomem) (λ errno h. h.0) (errors_of (args_of m r left)) (args_plain m r left)
 
 -- no error that it answers of its own is NOTCAPABLE
-pub args_not_denied : (m : Pages) (r : Registers) → IsNotDeniedEarly (args_of m r)
-args_not_denied m r = all_weaker IsPlain (λ errno. errno ≢ Notcapable) (λ errno h. h.1) (errors_of (args_of m r)) (args_plain m r)
+pub args_not_denied : (m : Pages) (r : Registers) (left : ℕ) → IsNotDeniedEarly (args_of m r left)
+args_not_denied m r left =
+    all_weaker IsPlain (λ errno. errno ≢ Notcapable) (λ errno h. h.1) (errors_of (args_of m r left)) (args_plain m r left)

@@ -48,22 +48,22 @@ place_is_other m a flags k =
     (either_place (nat_le (_) page_limit) (At a) (place.Refused Nobufs) (λ h. h) nobufs_is_other)
     (either_place (nat_le (_) page_limit) (place_in (lowest_gap m k)) (place.Refused Nobufs) (gap_is_other (lowest_gap m k)) nobufs_is_other)
 
-map_is_other : (m : Pages) (r : Registers) (it : Place) (length prot flags fd offset : ℕ) → IsEncodedBy m r (MemMap it length prot flags fd offset)
+map_is_other : (m : Pages) (r : Registers) (left : ℕ) (it : Place) (length prot flags fd offset : ℕ) → IsEncodedBy m r left (MemMap it length prot flags fd offset)
     → ¬ HasBadfPlace it
 unfolding read_of
-map_is_other m r it length prot flags fd offset is =
+map_is_other m r left it length prot flags fd offset is =
     let may = passed (may_map (argument r 0) (argument r 1) (low (argument r 2)) (low (argument r 3)) (argument r 5)) _ (MemMap it length prot flags fd offset) is in
     let placed : place_of m (argument r 0) (low (argument r 3)) (pages_in (argument r 1)) ≡ it = cc may.2 in
     subst (λ p. ¬ HasBadfPlace p) placed (place_is_other m (argument r 0) (low (argument r 3)) (pages_in (argument r 1)))
 
 -- ---- all of them
 
-call_is_other : (m : Pages) (r : Registers) (call : Call) → IsEncodedBy m r call → ¬ IsBadfBefore call
-call_is_other m r (Memory it errno) is = memory_is_other errno (memory_listed m r it errno is)
-call_is_other m r (Refused it errno) is = refusal_is_other errno is
-call_is_other m r (MemMap it length prot flags fd offset) is = map_is_other m r it length prot flags fd offset is
-call_is_other m r (FileStatFput fd stat flags) is = fput_sets_something m r fd stat flags is
-call_is_other m r call is = λ h. h
+call_is_other : (m : Pages) (r : Registers) (left : ℕ) (call : Call) → IsEncodedBy m r left call → ¬ IsBadfBefore call
+call_is_other m r left (Memory it errno) is = memory_is_other errno (memory_listed m r left it errno is)
+call_is_other m r left (Refused it errno) is = refusal_is_other errno is
+call_is_other m r left (MemMap it length prot flags fd offset) is = map_is_other m r left it length prot flags fd offset is
+call_is_other m r left (FileStatFput fd stat flags) is = fput_sets_something m r left fd stat flags is
+call_is_other m r left call is = λ h. h
 
-pub args_not_badf : (m : Pages) (r : Registers) → ¬ IsBadfBefore (args_of m r)
-args_not_badf m r = call_is_other m r (args_of m r) (args_encoded m r)
+pub args_not_badf : (m : Pages) (r : Registers) (left : ℕ) → ¬ IsBadfBefore (args_of m r left)
+args_not_badf m r left = call_is_other m r left (args_of m r left) (args_encoded m r left)

@@ -1,5 +1,5 @@
 -- Where a run is ended or stalled no entry fits, what an entry leaves of other processes, and how an act ends its process.
-use Rattle.std.proofs.Common.{◌≡◌, ◌≢◌, ◌⊎◌, inl, ℕ, true, false, List, Some, refl, sym, ap, subst, ◌∙◌}
+use Rattle.std.proofs.Common.{◌≡◌, ◌≢◌, ◌⊎◌, inl, ℕ, true, false, Contains, List, Some, refl, sym, ap, subst, ◌∙◌}
 use Rattle.std.specs.Ordering.{nat_cmp}
 use Rattle.std.specs.FinMap.{empty, get, get-empty}
 use Rattle.abi_types.specs.declared.constants.Constants.{Constants}
@@ -17,13 +17,15 @@ use Rattle.kernel_model.specs.Laws.{HasSameProcess, IsKilled}
 use Rattle.kernel_model.specs.State.{State}
 use Rattle.kernel_model.specs.Step.{end_state}
 use Rattle.kernel_model.specs.Wakes.{AllParked, IsStalled}
-use Rattle.kernel_model.proofs.Waking.{wake_keeps_made, wake_moves_only}
+use Rattle.kernel_model.specs.Valid.{IsValid}
+use Rattle.kernel_model.proofs.Waking.{wake_keeps, wake_keeps_made, wake_moves_only}
+use Rattle.run_model.proofs.Births.{unborn_is_other}
 use Rattle.kernel_model.proofs.Steps.{step_moves_only, step_keeps_made, end_ends_only, end_keeps_made}
 use Rattle.kernel_model.proofs.Tests.{none_is_no, not_true}
 use Rattle.maps.specs.Maps.{get-insert-other}
 use Rattle.run_model.specs.Ends.{Ended, Stalled, EndsBy}
 use Rattle.run_model.specs.Legal.{IsAnswered, FitsAct, Fits}
-use Rattle.run_model.specs.Own.{is_idle, Made}
+use Rattle.run_model.specs.Own.{born, is_idle, Made}
 use Rattle.run_model.specs.World.{World, Guest, start_world, guest_of, called_state, woken_state, turned, acted, who_of, apply, world}
 use Rattle.run_model.proofs.Histories.{apply_is}
 
@@ -66,22 +68,25 @@ killed_is_not_live signal e = cc
 
 -- ---- other processes
 
--- an act that fits changes nothing that another process has of its own in the kernel's state, or the release after it kills the process
-acted_process : (w : World) (who : Who) (guest : Guest) (ts : List ℕ) (a : Act) (q : ℕ) → FitsAct w.constants w.state who guest ts a → q ≢ who.pid
-    → HasSameProcess (acted w who a).state w.state q ⊎ IsKilled w.state (acted w who a).state q
-acted_process w who guest ts (act.Call call given) q fits n =
+-- an act that fits changes nothing that another process has of its own in the kernel's state, unless it makes that, or the release after it
+-- kills the process
+acted_process : (w : World) (who : Who) (guest : Guest) (ts : List ℕ) (a : Act) (q : ℕ) → IsValid w.state → FitsAct w.constants w.state who guest ts a → q ≢ who.pid
+    → ¬ Contains (born a) q → HasSameProcess (acted w who a).state w.state q ⊎ IsKilled w.state (acted w who a).state q
+acted_process w who guest ts (act.Call call given) q valid fits n unborn =
     (step_moves_only w.constants w.state who call given (called_state w.constants w.state who call given) fits.1).others q n
-acted_process w who guest ts (act.Wake call given answered) q fits n =
-    (wake_moves_only w.constants w.state who call given answered (woken_state w.constants w.state who call given answered) fits.1.1).others q n
-acted_process w who guest ts (act.Trap signal) q fits n = (end_ends_only w.state who.pid (Killed signal) (killed_is_not_live signal)).others q n
-acted_process w who guest ts act.Expire q fits n = (end_ends_only w.state who.pid (Killed Xcpu) (killed_is_not_live Xcpu)).others q n
-acted_process w who guest ts act.Idle q fits n = inl (refl, refl, refl)
+    (unborn_is_other w.constants w.state who call given (called_state w.constants w.state who call given) q fits.1 unborn)
+acted_process w who guest ts (act.Wake call given answered) q valid fits n unborn =
+    (wake_moves_only w.constants w.state who call given answered (woken_state w.constants w.state who call given answered) fits.1.1).others
+    (wake_keeps w.state who call answered valid fits.0.1).3 q n
+acted_process w who guest ts (act.Trap signal) q valid fits n unborn = (end_ends_only w.state who.pid (Killed signal) (killed_is_not_live signal)).others q n
+acted_process w who guest ts act.Expire q valid fits n unborn = (end_ends_only w.state who.pid (Killed Xcpu) (killed_is_not_live Xcpu)).others q n
+acted_process w who guest ts act.Idle q valid fits n unborn = inl (refl, refl, refl)
 
-pub apply_process : (w : World) (e : Entry) (q : ℕ) → Fits w e → q ≢ e.pid
+pub apply_process : (w : World) (e : Entry) (q : ℕ) → IsValid w.state → Fits w e → q ≢ e.pid → ¬ Contains (born e.act) q
     → HasSameProcess (apply w e).state w.state q ⊎ IsKilled w.state (apply w e).state q
-apply_process w e q fits n =
+apply_process w e q valid fits n unborn =
     subst (λ (v : World). HasSameProcess v.state w.state q ⊎ IsKilled w.state v.state q) (sym (apply_is w e))
-    (acted_process (turned w e.pid e.turns) (who_of w.state e) (guest_of w e.pid) e.turns e.act q fits.act n)
+    (acted_process (turned w e.pid e.turns) (who_of w.state e) (guest_of w e.pid) e.turns e.act q valid fits.act n unborn)
 
 -- an act that fits leaves each process made that was made
 acted_made : (w : World) (who : Who) (guest : Guest) (ts : List ℕ) (a : Act) (q : ℕ) → FitsAct w.constants w.state who guest ts a → Made w q

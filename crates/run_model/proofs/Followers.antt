@@ -44,7 +44,7 @@ use Rattle.run_model.specs.Own.{is_idle, IsLeft, is_born, is_ended, stays}
 use Rattle.run_model.specs.World.{World, Guest, start_world, guest_of, registers_of, called_state, woken_state, made_since, thread_at, turn_end, turned_guest_by, turned, acted, who_of, apply, apply_all, world}
 use Rattle.run_model.proofs.Calls.{called_is, ended_by, stays_on, woken_is}
 use Rattle.run_model.proofs.Ends.{killed_is_not_live, start_only}
-use Rattle.run_model.proofs.Own.{own_or_left, no_births, same_threads}
+use Rattle.run_model.proofs.Own.{born_runs, own_or_left, same_threads}
 use Rattle.run_model.proofs.Running.{NoneRuns, one_or_none, ready_or_none, some_lives, thread_lives}
 use Rattle.run_model.proofs.Worlds.{apply_valid, first_valid, world_is_valid}
 use Rattle.run_model.proofs.Potentials.{history_is_short}
@@ -86,17 +86,18 @@ own_has w e done valid fits =
     subst (λ (v : World). HasThreads v.state e.pid) (sym (apply_is w e))
     (acted_has (turned w e.pid e.turns) (who_of w.state e) (guest_of w e.pid) e.turns e.act done valid fits.act)
 
-others_have : (w v : World) (a : Act) (q : ℕ) → HasThreads w.state q → IsLeft w v a q → HasThreads v.state q
-others_have w v a q before (is_born there) live = absurd (no_births a q there)
-others_have w v a q before (is_ended was dead) live = absurd (dead live)
-others_have w v a q before (stays same) live =
-    let has = before (sym same.status ∙ live) in (has.0, has.1, ap (λ o. thread_in o has.0) (same_threads v w q same) ∙ has.2)
+others_have : (w : World) (e : Entry) (q : ℕ) → IsValid w.state → Fits w e → HasThreads w.state q → IsLeft w (apply w e) e.act q
+    → HasThreads (apply w e).state q
+others_have w e q valid fits before (is_born there) live = (e.tid, Runnable, (born_runs w e q valid fits there).0)
+others_have w e q valid fits before (is_ended was dead) live = absurd (dead live)
+others_have w e q valid fits before (stays same) live =
+    let has = before (sym same.status ∙ live) in (has.0, has.1, ap (λ o. thread_in o has.0) (same_threads (apply w e) w q same) ∙ has.2)
 
 threads_after : (w : World) (e : Entry) → IsValid w.state → ((p : ℕ) → HasThreads w.state p) → Fits w e → (p : ℕ) → HasThreads (apply w e).state p
 threads_after w e valid before fits p =
-    elim (own_or_left w e p fits) [
+    elim (own_or_left w e p valid fits) [
       | inl is ↦ subst (HasThreads (apply w e).state) (sym is.0) (own_has w e is.1 valid fits)
-      | inr left ↦ others_have w (apply w e) e.act p (before p) left
+      | inr left ↦ others_have w e p valid fits (before p) left
     ]
 
 follows_threads : (w : World) (history : List Entry) → IsValid w.state → ((p : ℕ) → HasThreads w.state p) → FollowsFrom w history
@@ -113,7 +114,8 @@ start_threads launch p live =
       | inr other ↦ absurd (start_only launch p other.1 live)
     ]
 
-legal_threads : (launch : Launch) (history : List Entry) → MayBegin launch.tree launch.grants → Legal launch history → (p : ℕ) → HasThreads (world launch history).state p
+legal_threads : (launch : Launch) (history : List Entry) → MayBegin launch.tree launch.grants → Legal launch history
+    → (p : ℕ) → HasThreads (world launch history).state p
 unfolding Legal world
 legal_threads launch history begins legal = follows_threads (start_world launch) history (first_valid launch begins) (start_threads launch) legal
 
@@ -130,12 +132,13 @@ called constants S who guest ts whole may end =
     let after : Guest = turned_guest_by (ts ++ who.tid ∷ []) guest in
     let m : Pages = after.memory in
     let r : Registers = registers_of after who.tid in
-    let given = step_answer constants S who (args_of m r) in (
+    let call : Call = args_of m r after.left in
+    let given = step_answer constants S who call in (
       ts ++ who.tid ∷ [],
-      act.Call (args_of m r) given,
+      act.Call call given,
       (
         ((ts, refl, whole, may, end), refl),
-        inl (refl, sym (called_is m r constants S who given (step_state constants S who (args_of m r)) (inl (refl, refl)))),
+        inl (refl, sym (called_is m r after.left constants S who given (step_state constants S who call) (inl (refl, refl)))),
       ),
     )
 

@@ -17,5 +17,7 @@ pub mod Wakes
 pub mod Waited
 pub mod WaitingRegisters
 pub mod Asks
+pub mod Births
+pub mod BornParts
 pub mod Counts
 pub mod ThreadLaws

@@ -1,10 +1,15 @@
 -- Each entry takes from what is left to do, so a history is short.
-use Rattle.std.proofs.Common.{◌≡◌, ◌≢◌, ◌⊎◌, ℕ, ◌+◌, ◌-◌, ◌*◌, ◌<◌, ◌≤◌, true, false, List, [], ◌∷◌, length, Option, Some, None, IsSome, is_some, refl, sym, ap, subst, ◌∙◌, arith, length-append}
+use Rattle.std.proofs.Common.{◌≡◌, ◌≢◌, ◌⊎◌, inl, inr, ℕ, ◌+◌, ◌-◌, ◌*◌, ◌<◌, ◌≤◌, Bool, true, false, Contains, List, [], ◌∷◌, length, Option, Some, None, IsSome, is_some, refl, sym, ap, subst, ◌∙◌, arith, length-append}
+use Rattle.std.proofs.lemmas.Bool.Decides.{eqb_tells}
 use Rattle.std.specs.Ordering.{nat_cmp}
-use Rattle.std.specs.FinMap.{empty, get, get-empty}
+use Rattle.std.specs.Prelude.{if◌then◌else◌}
+use Rattle.std.specs.FinMap.{FinMap, empty, get, get-empty, insert}
 use Rattle.abi_types.specs.declared.reply.Answer.{Answer}
 use Rattle.abi_types.specs.declared.reply.Answer.TheVariants as answer
 use Rattle.abi_types.specs.declared.call.Call.{Call}
+use Rattle.abi_types.specs.declared.call.Call.TheVariants.{ProcExec, ProcFork}
+use Rattle.abi_types.specs.declared.reply.Payload.{Payload}
+use Rattle.abi_types.specs.declared.reply.Payload.TheVariants.{Image}
 use Rattle.abi_base.specs.declared.signal.Signal.TheVariants.{Xcpu}
 use Rattle.abi_types.specs.declared.status.Status.{Status}
 use Rattle.abi_types.specs.declared.status.Status.TheVariants.{Live, Exit, Killed}
@@ -17,26 +22,28 @@ use Rattle.abi_types.specs.declared.thread.Thread.TheVariants.{Runnable}
 use Rattle.tree_model.specs.Grants.{MayBegin}
 use Rattle.kernel_model.specs.Deadlines.{idle_state}
 use Rattle.kernel_model.specs.State.{State, thread_of}
+use Rattle.kernel_model.specs.Threads.{child_told, is_success}
 use Rattle.kernel_model.specs.Valid.{IsValid}
 use Rattle.kernel_model.specs.Waits.{HasDeadlines}
 use Rattle.kernel_model.proofs.Readiness.{jump_readies}
 use Rattle.kernel_model.proofs.Starts.{start_runs}
 use Rattle.kernel_model.proofs.Tests.{not_true}
 use Rattle.kernel_model.specs.Step.{end_state}
-use Rattle.maps.specs.Maps.{total, weight, total-empty, total-insert}
+use Rattle.maps.specs.Maps.{get-insert-same, get-insert-other, total, weight, total-empty, total-insert}
 use Rattle.rv_interp.specs.declared.turns.TurnEnd.{TurnEnd}
 use Rattle.rv_interp.specs.declared.turns.TurnEnd.TheVariants.{Ecall, Trap}
 use Rattle.run_model.specs.Ends.{turns_taken, live_number, potential}
 use Rattle.run_model.specs.Legal.{AreWhole, LastEnds, Asks, FitsAct, Fits, FollowsFrom, Legal}
-use Rattle.run_model.specs.Own.{is_idle, IsLeft, is_born, is_ended, stays}
-use Rattle.run_model.specs.World.{World, Guest, start_world, first_guest, guest_of, or_no_guest, called_guest, turned_guest, turned_guest_by, turned, acted, who_of, apply, apply_all, world}
+use Rattle.run_model.specs.Own.{born, is_idle, IsLeft, is_born, is_ended, stays}
+use Rattle.run_model.specs.World.{World, Guest, start_world, first_guest, guest_of, or_no_guest, answered_guest, begun_guest, called_guest, child_guest, less_share, share, with_child, turned_guest, turned_guest_by, turned, acted, who_of, apply, apply_all, world}
+use Rattle.run_model.proofs.Births.{contains_one}
 use Rattle.run_model.proofs.Calls.{ended_by}
 use Rattle.run_model.proofs.Ends.{killed_is_not_live}
 use Rattle.run_model.proofs.Histories.{apply_is, first_state, turned_more, first_thread}
 use Rattle.run_model.proofs.Running.{jump_at_most, jump_is_left, ready_no_jump, running_no_jump}
 use Rattle.run_model.proofs.Worlds.{apply_deadlines, apply_valid, first_deadlines, first_valid}
 use Rattle.run_model.proofs.Wakes.{all_wakes, call_wakes, end_wakes, none_wakes, total_around, woken_wakes}
-use Rattle.run_model.proofs.Own.{left_where, no_births}
+use Rattle.run_model.proofs.Own.{left_where}
 
 -- ---- turns
 
@@ -95,27 +102,64 @@ turned_all w p ts =
     let here = left_here (get w.guests p) in
     omega (arith, sums, here)
 
+-- what a child takes, if there is one
+abbrev told : Option ℕ → ℕ → ℕ
+told None n = 0
+told (Some child) n = n
+
 called_left : (guest : Guest) (t : ℕ) (call : Call) (given : Answer) → (called_guest guest t call given).left ≡ guest.left
 called_left guest t call (answer.Parked writes) = refl
 called_left guest t call (answer.Reply reply) = refl
 
-acted_all : (w : World) (who : Who) (a : Act) → all_left (acted w who a) ≡ all_left w
+begun_left : (guest : Guest) (p t : ℕ) (bytes : List ℕ) (payload : Payload) → (begun_guest guest p t bytes payload).left ≡ guest.left
+begun_left guest p t bytes (Image elf canary) = refl
+begun_left guest p t bytes payload = refl
+
+exec_left : (done : Bool) (a b : Guest) (n : ℕ) → a.left ≡ n → b.left ≡ n → (if done then a else b).left ≡ n
+exec_left true a b n first second = first
+exec_left false a b n first second = second
+
+share_taken : (child : Option ℕ) (guest : Guest) → (less_share child guest).left + told child (share guest.left) ≤ guest.left
+share_taken None guest = omega arith
+share_taken (Some child) guest = omega arith
+
+-- what a process has left after its call, and what its child has, is no more than it had
+answered_left : (p : ℕ) (guest : Guest) (t : ℕ) (call : Call) (given : Answer)
+    → (answered_guest p guest t call given).left + told (child_told call given) (share guest.left) ≤ guest.left
+answered_left p guest t (ProcExec fd bytes fds) (answer.Parked writes) = omega arith
+answered_left p guest t (ProcExec fd bytes fds) (answer.Reply reply) =
+    let same =
+    exec_left (is_success reply.errno) (begun_guest guest p t bytes reply.payload) (called_guest guest t (ProcExec fd bytes fds) (answer.Reply reply)) guest.left
+    (begun_left guest p t bytes reply.payload) refl in
+    omega (arith, same)
+answered_left p guest t (ProcFork left) given = share_taken (child_told (ProcFork left) given) (called_guest guest t (ProcFork left) given)
+answered_left p guest t call given = omega arith
+
+child_sums : (child : Option ℕ) (guest : Guest) (guests : FinMap nat_cmp Guest)
+    → total left_of (with_child child guest guests) ≤ total left_of guests + told child guest.left
+child_sums None guest guests = omega arith
+child_sums (Some child) guest guests = let sums = total-insert left_of guests child guest in omega (arith, sums)
+
+acted_all : (w : World) (who : Who) (a : Act) → all_left (acted w who a) ≤ all_left w
 acted_all w who (act.Call call given) =
-    let sums = total-insert left_of w.guests who.pid (called_guest (guest_of w who.pid) who.tid call given) in
+    let guest = guest_of w who.pid in
+    let sums = total-insert left_of w.guests who.pid (answered_guest who.pid guest who.tid call given) in
     let here = left_here (get w.guests who.pid) in
-    let same = called_left (guest_of w who.pid) who.tid call given in
-    omega (arith, sums, here, same)
+    let same = answered_left who.pid guest who.tid call given in
+    let child =
+    child_sums (child_told call given) (child_guest guest who.tid) (insert w.guests who.pid (answered_guest who.pid guest who.tid call given)) in
+    omega (arith, sums, here, same, child)
 acted_all w who (act.Wake call given answered) =
     let sums = total-insert left_of w.guests who.pid (called_guest (guest_of w who.pid) who.tid call answered) in
     let here = left_here (get w.guests who.pid) in
     let same = called_left (guest_of w who.pid) who.tid call answered in
     omega (arith, sums, here, same)
-acted_all w who (act.Trap signal) = refl
-acted_all w who act.Expire = refl
-acted_all w who act.Idle = refl
+acted_all w who (act.Trap signal) = omega arith
+acted_all w who act.Expire = omega arith
+acted_all w who act.Idle = omega arith
 
 -- an entry takes its turns of those that are left
-entry_takes : (w : World) (e : Entry) → Fits w e → all_left (apply w e) + length e.turns ≡ all_left w
+entry_takes : (w : World) (e : Entry) → Fits w e → all_left (apply w e) + length e.turns ≤ all_left w
 entry_takes w e fits =
     let turns = turned_all w e.pid e.turns in
     let same = acted_all (turned w e.pid e.turns) (who_of w.state e) e.act in
@@ -123,11 +167,11 @@ entry_takes w e fits =
     let after : all_left (apply w e) ≡ all_left (acted (turned w e.pid e.turns) (who_of w.state e) e.act) = ap all_left (apply_is w e) in
     omega (arith, turns, same, takes, after)
 
-follows_take : (w : World) (history : List Entry) → FollowsFrom w history → all_left (apply_all w history) + turns_taken history ≡ all_left w
+follows_take : (w : World) (history : List Entry) → FollowsFrom w history → all_left (apply_all w history) + turns_taken history ≤ all_left w
 unfolding FollowsFrom apply_all
 follows_take w [] follows = omega arith
 follows_take w (e ∷ history) follows =
-    let rest : all_left (apply_all (apply w e) history) + turns_taken history ≡ all_left (apply w e) = follows_take (apply w e) history follows.1 in
+    let rest : all_left (apply_all (apply w e) history) + turns_taken history ≤ all_left (apply w e) = follows_take (apply w e) history follows.1 in
     let here = entry_takes w e follows.0 in
     omega (arith, rest, here)
 
@@ -149,33 +193,88 @@ not_counted (Some Live) dead = absurd (dead refl)
 not_counted (Some (Exit code)) dead = refl
 not_counted (Some (Killed signal)) dead = refl
 
--- a process that an entry leaves counts no more after it than before
-other_counts : (w v : World) (a : Act) (q : ℕ) → IsLeft w v a q
-    → weight live_number (get v.state.statuses q) ≤ weight live_number (get w.state.statuses q)
-other_counts w v a q (is_born there) = absurd (no_births a q there)
-other_counts w v a q (is_ended was dead) = let none = not_counted (get v.state.statuses q) dead in omega (arith, none)
-other_counts w v a q (stays same) = let status = ap (weight live_number) same.status in omega (arith, status)
+-- the child of an act
+abbrev act_child : Act → Option ℕ
+act_child (act.Call call given) = child_told call given
+act_child _ = None
 
--- after an entry that is no jump at most as many processes are live as before it, and one less if its own is not
-lives_fall : (w : World) (e : Entry) → is_idle e.act ≡ false → Fits w e
-    → all_live (apply w e).state + 1 ≤ all_live w.state + weight live_number (get (apply w e).state.statuses e.pid)
-lives_fall w e done fits =
+abbrev born_number : Option ℕ → ℕ
+born_number None = 0
+born_number (Some child) = 1
+
+one_child : (child : Option ℕ) → born_number child ≤ 1
+one_child None = omega arith
+one_child (Some child) = omega arith
+
+born_child : (a : Act) (q : ℕ) → Contains (born a) q → act_child a ≡ Some q
+born_child (act.Call call given) q there = contains_one (child_told call given) q there
+born_child (act.Wake call given answered) q there = absurd (omega (arith, there.1))
+born_child (act.Trap signal) q there = absurd (omega (arith, there.1))
+born_child act.Expire q there = absurd (omega (arith, there.1))
+born_child act.Idle q there = absurd (omega (arith, there.1))
+
+-- those that were there, and the child
+abbrev lives_with : Option ℕ → FinMap nat_cmp Status → FinMap nat_cmp Status
+lives_with None m = m
+lives_with (Some child) m = insert m child Live
+
+lives_total : (child : Option ℕ) (m : FinMap nat_cmp Status) → total live_number (lives_with child m) ≤ total live_number m + born_number child
+lives_total None m = omega arith
+lives_total (Some child) m = let sums = total-insert live_number m child Live in omega (arith, sums)
+
+child_lives : (m : FinMap nat_cmp Status) (q : ℕ) → weight live_number (get (insert m q Live) q) ≡ 1
+child_lives m q = ap (weight live_number) (get-insert-same m q Live)
+
+lives_more : (child : Option ℕ) (m : FinMap nat_cmp Status) (q : ℕ) → weight live_number (get m q) ≤ weight live_number (get (lives_with child m) q)
+lives_more None m q = omega arith
+lives_more (Some child) m q =
+    elim (eqb_tells q child) [
+      | inl is ↦ (
+          let most = at_most_one (get m q) in
+          let one : weight live_number (get (insert m child Live) q) ≡ 1 = ap (λ k. weight live_number (get (insert m child Live) k)) is.1 ∙ child_lives m child in
+          omega (arith, most, one))
+      | inr other ↦ (
+          let same : weight live_number (get (insert m child Live) q) ≡ weight live_number (get m q) =
+          ap (weight live_number) (get-insert-other m child Live q other.1) in
+          omega (arith, same))
+    ]
+
+-- a process that an entry leaves counts no more after it than before, unless it is the child
+other_counts : (w v : World) (a : Act) (q : ℕ) → IsLeft w v a q
+    → weight live_number (get v.state.statuses q) ≤ weight live_number (get (lives_with (act_child a) w.state.statuses) q)
+other_counts w v a q (is_born there) =
+    let most = at_most_one (get v.state.statuses q) in
+    let one : weight live_number (get (lives_with (act_child a) w.state.statuses) q) ≡ 1 =
+    ap (λ o. weight live_number (get (lives_with o w.state.statuses) q)) (born_child a q there) ∙ child_lives w.state.statuses q in
+    omega (arith, most, one)
+other_counts w v a q (is_ended was dead) = let none = not_counted (get v.state.statuses q) dead in omega (arith, none)
+other_counts w v a q (stays same) =
+    let status = ap (weight live_number) same.status in
+    let more = lives_more (act_child a) w.state.statuses q in
+    omega (arith, status, more)
+
+-- after an entry that is no jump at most as many processes are live as before it, with the child, and one less if its own is not
+lives_fall : (w : World) (e : Entry) → is_idle e.act ≡ false → IsValid w.state → Fits w e
+    → all_live (apply w e).state + 1 ≤ all_live w.state + weight live_number (get (apply w e).state.statuses e.pid) + born_number (act_child e.act)
+lives_fall w e done valid fits =
     let one : weight live_number (get w.state.statuses e.pid) ≡ 1 = ap (weight live_number) (fits.live done) in
+    let more = lives_more (act_child e.act) w.state.statuses e.pid in
+    let most = lives_total (act_child e.act) w.state.statuses in
     let sums =
-    total_around live_number (apply w e).state.statuses w.state.statuses e.pid
-    (λ q apart. other_counts w (apply w e) e.act q (left_where w e q fits apart)) in
-    omega (arith, one, sums)
+    total_around live_number (apply w e).state.statuses (lives_with (act_child e.act) w.state.statuses) e.pid
+    (λ q apart. other_counts w (apply w e) e.act q (left_where w e q valid fits apart)) in
+    omega (arith, one, more, most, sums)
 
 -- ---- entries
 
--- the processes that are live after the entry are as many as before it, or less
+-- the processes that are live after the entry are as many as before it with the child, or less
 abbrev LivesFall : World → Who → List ℕ → Act → Type 0
 LivesFall w who ts a =
     let after = (acted (turned w who.pid ts) who a).state in
-    all_live after + 1 ≤ all_live w.state + weight live_number (get after.statuses who.pid)
+    all_live after + 1 ≤ all_live w.state + weight live_number (get after.statuses who.pid) + born_number (act_child a)
 
--- where w becomes v by an act that takes a turn, and leaves at most one wake more, less is left to do
-falls : (w v : World) → all_left v + 1 ≤ all_left w → all_live v.state ≤ all_live w.state → all_wakes v.state ≤ all_wakes w.state + 1 → potential v < potential w
+-- where w becomes v by an act that takes a turn, and leaves at most one process more and one wake, less is left to do
+falls : (w v : World) → all_left v + 1 ≤ all_left w → all_live v.state ≤ all_live w.state + 1 → all_wakes v.state ≤ all_wakes w.state + 1 → potential v < potential w
 falls w v left lives wakes = let most = jump_at_most v.constants v.state in omega (arith, left, lives, wakes, most)
 
 act_falls : (w : World) (who : Who) (ts : List ℕ) (a : Act) → is_idle a ≡ false → IsSome (get w.state.statuses who.pid) → IsValid w.state
@@ -187,7 +286,8 @@ act_falls w who ts (act.Call call given) done made valid lives fits =
     let most = at_most_one (get v.state.statuses who.pid) in
     let less = last_takes w.state who.pid (guest_of w who.pid) ts who.tid Ecall fits.0.0 in
     let wakes = call_wakes w.constants w.state who call given v.state valid fits.1 fits.0.0.3.0 in
-    falls w v (omega (arith, turns, same, less)) (omega (arith, lives, most)) wakes
+    let child = one_child (child_told call given) in
+    falls w v (omega (arith, turns, same, less)) (omega (arith, lives, most, child)) wakes
 act_falls w who ts (act.Wake call given answered) done made valid lives fits =
     let turns = turned_all w who.pid ts in
     let same = acted_all (turned w who.pid ts) who (act.Wake call given answered) in
@@ -241,7 +341,8 @@ potential_falls w e valid due fits =
       | true ↦ λ idle. idle_falls w (who_of w.state e) e.turns e.act idle valid due fits.act
       | false ↦ λ done.
           act_falls w (who_of w.state e) e.turns e.act done (ap is_some (fits.live done)) valid
-          (subst (λ (v : World). all_live v.state + 1 ≤ all_live w.state + weight live_number (get v.state.statuses e.pid)) (apply_is w e) (lives_fall w e done fits))
+          (subst (λ (v : World). all_live v.state + 1 ≤ all_live w.state + weight live_number (get v.state.statuses e.pid) + born_number (act_child e.act)) (apply_is w e)
+          (lives_fall w e done valid fits))
           fits.act
     ] refl)
 

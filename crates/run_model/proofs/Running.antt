@@ -3,7 +3,7 @@
 --     ready_or_none      a ready thread, or none
 --     running_no_jump, ready_no_jump, jump_at_most, jump_is_left      whether time may jump
 --     some_lives      a live process, or none
---     thread_lives      the process of a thread is live in a valid state
+--     thread_lives, none_while_live      the process of a thread is live in a valid state
 use Rattle.std.proofs.Common.{◌≡◌, ◌⊎◌, inl, inr, ℕ, ◌≤◌, arith, Bool, true, false, Option, Some, None, is_some, refl, sym, ap, ◌∙◌}
 use Rattle.std.specs.Option.{option_map}
 use Rattle.std.specs.Ordering.{nat_cmp}
@@ -222,3 +222,11 @@ lives_by S p t thread (Some (Killed signal)) valid is there =
 -- the process of a thread is live
 pub thread_lives : (S : State) (p t : ℕ) (thread : Thread) → IsValid S → HasThread S p t thread → get S.statuses p ≡ Some Live
 thread_lives S p t thread valid there = lives_by S p t thread (get S.statuses p) valid refl there
+
+-- a thread that isn't there while its process lives is not there
+pub none_while_live : (S : State) (p t : ℕ) → IsValid S → (get S.statuses p ≡ Some Live → thread_of S p t ≡ None) → thread_of S p t ≡ None
+none_while_live S p t valid none =
+    elim (thread_of S p t) as (λ o. thread_of S p t ≡ o → o ≡ None) [
+      | None ↦ λ _. refl
+      | Some thread ↦ λ there. sym there ∙ none (thread_lives S p t thread valid there)
+    ] refl

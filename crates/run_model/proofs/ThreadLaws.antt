@@ -1,9 +1,10 @@
 -- Threads, random bytes and clocks in legal histories.
 --     step_of, guest_after, runs_before      what an entry is whose call has succeeded
 --     new_thread_begins, ended_thread_is_gone      a thread that is made, and one that has ended
+--     program_begins      a process in which another program begins
 --     between, thread_numbers_go_up, gone_stays_gone, others_keep_threads      threads in histories
 --     draw_is_own, draws_are_apart, canary_is_apart, numbers_suffice, clocks_go_on      random bytes, bounds and clocks
-use Rattle.std.proofs.Common.{◌≡◌, ◌≢◌, ◌⊎◌, inl, inr, ℕ, ◌+◌, ◌<◌, ◌≤◌, Bool, true, false, List, [], ◌∷◌, ◌++◌, Option, Some, None, IsSome, refl, sym, ap, subst, ◌∙◌, arith}
+use Rattle.std.proofs.Common.{◌≡◌, ◌≢◌, ◌⊎◌, inl, inr, ℕ, ◌+◌, ◌<◌, ◌≤◌, Bool, true, false, List, [], ◌∷◌, ◌++◌, Option, Some, None, IsSome, is_some, refl, sym, ap, subst, ◌∙◌, arith}
 use Rattle.std.proofs.lemmas.Bool.Decides.{eqb_tells}
 use Rattle.std.proofs.lemmas.List.{append_assoc}
 use Rattle.std.specs.Option.{option_map}
@@ -15,7 +16,7 @@ use Rattle.abi_base.specs.declared.signal.Signal.TheVariants.{Kill, Xcpu}
 use Rattle.abi_base.specs.Registers.{Registers}
 use Rattle.abi_structures.specs.declared.structures.ThreadAttr.{ThreadAttr}
 use Rattle.abi_types.specs.declared.call.Call.{Call}
-use Rattle.abi_types.specs.declared.call.Call.TheVariants.{ClockTimeGet, RandomGet, ThreadCreate, ThreadExit}
+use Rattle.abi_types.specs.declared.call.Call.TheVariants.{ClockTimeGet, ProcExec, RandomGet, ThreadCreate, ThreadExit}
 use Rattle.abi_types.specs.declared.counts.Counts.{Counts}
 use Rattle.abi_types.specs.declared.reply.Answer.{Answer}
 use Rattle.abi_types.specs.declared.reply.Answer.TheVariants as answer
@@ -37,25 +38,27 @@ use Rattle.kernel_model.specs.Families.ProcessCalls.{ended_process}
 use Rattle.kernel_model.specs.Laws.{HasSameProcess, IsKilled}
 use Rattle.kernel_model.specs.State.{ProcessState, State, counts_in, thread_in, thread_of}
 use Rattle.kernel_model.specs.Step.{IsStep}
-use Rattle.kernel_model.specs.Threads.{ends_caller, is_success, makes_thread, next_number}
+use Rattle.kernel_model.specs.Threads.{child_told, ends_caller, is_success, makes_thread, next_number}
 use Rattle.kernel_model.specs.Valid.{IsValid}
 use Rattle.kernel_model.proofs.Steps.{step_moves_only}
-use Rattle.kernel_model.proofs.Tests.{none_is_no}
+use Rattle.kernel_model.proofs.Tests.{none_is_no, not_true}
 use Rattle.kernel_model.proofs.ThreadLaws.{create_number, random_is_drawn, thread_is_made, time_is}
 use Rattle.kernel_model.proofs.Waking.{wake_moves_only}
 use Rattle.maps.specs.Maps.{get-insert-same}
+use Rattle.tree_model.specs.Grants.{MayBegin}
 use Rattle.run_model.specs.Ends.{turns_taken}
 use Rattle.run_model.specs.Legal.{FitsAct, Fits, FollowsFrom, IsRunnable, Legal}
-use Rattle.run_model.specs.Own.{is_idle, IsLiveIn}
-use Rattle.run_model.specs.ThreadLaws.{place_of, CanaryIsApart, ClocksGoOn, DrawIsOwn, DrawsAreApart, EndedThreadIsGone, GoneStaysGone, HasBegun, NewThreadBegins, NumbersSuffice, OthersKeepThreads, Succeeds, ThreadNumbersGoUp}
-use Rattle.run_model.specs.World.{World, Guest, acted, apply, apply_all, called_guest, called_state, guest_of, or_no_registers, registers_of, start_world, turned, who_of, woken_state, world}
+use Rattle.run_model.specs.Own.{is_idle, IsLiveIn, Made}
+use Rattle.run_model.specs.ThreadLaws.{place_of, CanaryIsApart, ClocksGoOn, DrawIsOwn, DrawsAreApart, EndedThreadIsGone, GoneStaysGone, HasBegun, NewThreadBegins, NumbersSuffice, OthersKeepThreads, ProgramBegins, Succeeds, ThreadNumbersGoUp}
+use Rattle.run_model.specs.World.{World, Guest, acted, answered_guest, apply, apply_all, begun_guest, called_guest, called_state, guest_of, or_no_registers, registers_of, start_world, turned, who_of, woken_state, world}
 use Rattle.run_model.proofs.Calls.{ended_by}
-use Rattle.run_model.proofs.Counts.{all_bound, all_counts, call_counts, counts_of, entry_counts, start_counts, start_words, NoLess, Within}
-use Rattle.run_model.proofs.Ends.{apply_process, killed_is_not_live}
-use Rattle.run_model.proofs.Histories.{apply_is, first_guest_is, guest_set, legal_front, legal_next, legal_rest, world_constants, world_rest}
-use Rattle.run_model.proofs.Own.{idle_leaves, other_process, same_threads}
+use Rattle.run_model.proofs.Counts.{all_bound, all_counts, call_counts, counts_of, entry_counts, start_words, NoLess, Within}
+use Rattle.run_model.proofs.Ends.{apply_made, apply_process, killed_is_not_live}
+use Rattle.run_model.proofs.Histories.{apply_is, first_guest_is, legal_front, legal_next, legal_rest, world_constants, world_rest}
+use Rattle.run_model.proofs.Own.{born_is_new, idle_leaves, made_later, other_process, same_threads}
 use Rattle.run_model.proofs.Potentials.{turns_are_bounded}
-use Rattle.run_model.proofs.Running.{thread_lives}
+use Rattle.run_model.proofs.Registers.{call_guest}
+use Rattle.run_model.proofs.Running.{none_while_live, thread_lives}
 use Rattle.run_model.proofs.ThreadRegisters.{called_ended, called_kept, called_made}
 use Rattle.run_model.proofs.Worlds.{apply_clock, apply_valid, first_valid, follows_least, world_is_valid}
 
@@ -83,17 +86,17 @@ runs_before : (w : World) (e : Entry) (p : ℕ) (call : Call) (reply : Reply) �
 runs_before w e p call reply fits succeeds =
     act_runs w (who_of w.state e) (guest_of w e.pid) e.turns e.act call (answer.Reply reply) succeeds.act fits.act
 
-act_guest : (w : World) (who : Who) (ts : List ℕ) (a : Act) (call : Call) (given : Answer) → a ≡ act.Call call given
-    → guest_of (acted (turned w who.pid ts) who a) who.pid ≡ called_guest (guest_of (turned w who.pid ts) who.pid) who.tid call given
-act_guest w who ts a call given is =
-    subst (λ x. guest_of (acted (turned w who.pid ts) who x) who.pid ≡ called_guest (guest_of (turned w who.pid ts) who.pid) who.tid call given) (sym is)
-    (guest_set (turned w who.pid ts) who.pid (called_guest (guest_of (turned w who.pid ts) who.pid) who.tid call given))
+act_guest : (w : World) (who : Who) (ts : List ℕ) (a : Act) (call : Call) (given : Answer) → a ≡ act.Call call given → child_told call given ≡ None
+    → guest_of (acted (turned w who.pid ts) who a) who.pid ≡ answered_guest who.pid (guest_of (turned w who.pid ts) who.pid) who.tid call given
+act_guest w who ts a call given is none =
+    subst (λ x. guest_of (acted (turned w who.pid ts) who x) who.pid ≡ answered_guest who.pid (guest_of (turned w who.pid ts) who.pid) who.tid call given) (sym is)
+    (call_guest (turned w who.pid ts) who call given (λ same. none_is_no who.pid (sym none ∙ same)))
 
--- the guest after it
-guest_after : (w : World) (e : Entry) (p : ℕ) (call : Call) (reply : Reply) → Succeeds e p call reply
-    → guest_of (apply w e) e.pid ≡ called_guest (guest_of (turned w e.pid e.turns) e.pid) e.tid call (answer.Reply reply)
-guest_after w e p call reply succeeds =
-    ap (λ (v : World). guest_of v e.pid) (apply_is w e) ∙ act_guest w (who_of w.state e) e.turns e.act call (answer.Reply reply) succeeds.act
+-- the guest after it, if it makes no child
+guest_after : (w : World) (e : Entry) (p : ℕ) (call : Call) (reply : Reply) → Succeeds e p call reply → child_told call (answer.Reply reply) ≡ None
+    → guest_of (apply w e) e.pid ≡ answered_guest e.pid (guest_of (turned w e.pid e.turns) e.pid) e.tid call (answer.Reply reply)
+guest_after w e p call reply succeeds none =
+    ap (λ (v : World). guest_of v e.pid) (apply_is w e) ∙ act_guest w (who_of w.state e) e.turns e.act call (answer.Reply reply) succeeds.act none
 
 is_live : (w : World) (e : Entry) (p : ℕ) (call : Call) (reply : Reply) → Fits w e → Succeeds e p call reply → IsLiveIn w e.pid
 is_live w e p call reply fits succeeds = fits.live (ap is_idle succeeds.act)
@@ -128,13 +131,13 @@ module _ (w : World) (e : Entry) (attributes : ThreadAttr) (reply : Reply) (fits
 
   new_has : get (guest_of (apply w e) e.pid).regs reply.r1 ≡ Some (thread_registers attributes reply.r1)
   new_has =
-      ap (λ (g : Guest). get g.regs reply.r1) (guest_after w e e.pid (ThreadCreate attributes) reply succeeds)
+      ap (λ (g : Guest). get g.regs reply.r1) (guest_after w e e.pid (ThreadCreate attributes) reply succeeds refl)
       ∙ called_made (insert before.regs e.tid (answered_of (registers_of before e.tid) (ThreadCreate attributes) given)) e.tid attributes given makes
 
   maker_has : registers_of (guest_of (apply w e) e.pid) e.tid ≡ answered_of (registers_of before e.tid) (ThreadCreate attributes) given
   maker_has =
       let own : Registers = answered_of (registers_of before e.tid) (ThreadCreate attributes) given in
-      ap (λ (g : Guest). registers_of g e.tid) (guest_after w e e.pid (ThreadCreate attributes) reply succeeds)
+      ap (λ (g : Guest). registers_of g e.tid) (guest_after w e e.pid (ThreadCreate attributes) reply succeeds refl)
       ∙ ap or_no_registers (called_kept (insert before.regs e.tid own) e.tid (ThreadCreate attributes) given e.tid (λ _. refl)
       (λ _ same. new_is_other (sym same)))
       ∙ ap or_no_registers (get-insert-same before.regs e.tid own)
@@ -165,14 +168,6 @@ new_thread_begins w e p t attributes valid fits made =
 
 -- ---- a thread that has ended
 
--- a thread that isn't there while its process lives is not there
-none_while_live : (S : State) (p t : ℕ) → IsValid S → (get S.statuses p ≡ Some Live → thread_of S p t ≡ None) → thread_of S p t ≡ None
-none_while_live S p t valid none =
-    elim (thread_of S p t) as (λ o. thread_of S p t ≡ o → o ≡ None) [
-      | None ↦ λ _. refl
-      | Some thread ↦ λ there. sym there ∙ none (thread_lives S p t thread valid there)
-    ] refl
-
 pub ended_thread_is_gone : EndedThreadIsGone
 ended_thread_is_gone w e p t valid fits ended =
     let call : Call = ThreadExit ended.0 ended.1 ended.2 in
@@ -186,9 +181,30 @@ ended_thread_is_gone w e p t valid fits ended =
     (subst (λ u. (thread_of T e.pid u ≡ None) × (get (guest_of (apply w e) e.pid).regs u ≡ None)) ended.5 (
       none_while_live T e.pid e.tid (apply_valid w e fits valid) (λ live.
           ((step_moves_only w.constants w.state who call (answer.Reply reply) T (step_of w e e.pid call reply fits succeeds)).threads live).ended ends),
-      ap (λ (g : Guest). get g.regs e.tid) (guest_after w e e.pid call reply succeeds)
+      ap (λ (g : Guest). get g.regs e.tid) (guest_after w e e.pid call reply succeeds refl)
           ∙ called_ended (insert before.regs e.tid (answered_of (registers_of before e.tid) call (answer.Reply reply))) e.tid call (answer.Reply reply) ends,
     ))
+
+-- ---- another program
+
+pub program_begins : ProgramBegins
+program_begins w e fd bytes fds reply fits succeeds live =
+    let call : Call = ProcExec fd bytes fds in
+    let given : Answer = answer.Reply reply in
+    let T = (apply w e).state in
+    let guest : Guest = guest_of (turned w e.pid e.turns) e.pid in
+    let done : is_success reply.errno ≡ true = ap is_success succeeds.done in
+    let step = step_of w e e.pid call reply fits succeeds in
+    let leaves = (step_moves_only w.constants w.state (who_of w.state e) call given T step).threads live in
+    record {
+      thread = record {
+        live = live;
+        runs = leaves.caller refl ∙ runs_before w e e.pid call reply fits succeeds;
+        alone = leaves.alone done;
+      };
+      guest = guest_after w e e.pid call reply succeeds refl
+          ∙ ap (λ (b : Bool). if b then begun_guest guest e.pid e.tid bytes reply.payload else called_guest guest e.tid call given) done;
+    }
 
 -- ---- two entries of a history
 
@@ -219,11 +235,12 @@ between launch front e middle f rest legal =
     }
 
 -- the counts between them
-counts_between : (launch : Launch) (front : List Entry) (e : Entry) (middle : List Entry) (f : Entry) (p : ℕ) → Between launch front e middle f
+counts_between : (launch : Launch) (front : List Entry) (e : Entry) (middle : List Entry) (f : Entry) (p : ℕ) → IsValid (world launch front).state
+    → Between launch front e middle f
     → NoLess (counts_of (apply (world launch front) e) p) (counts_of (world launch (front ++ e ∷ middle)) p)
-counts_between launch front e middle f p b =
+counts_between launch front e middle f p valid b =
     subst (λ (v : World). NoLess (counts_of (apply (world launch front) e) p) (counts_of v p)) (sym b.is)
-    (all_counts (apply (world launch front) e) middle p b.follows)
+    (all_counts (apply (world launch front) e) middle p (apply_valid (world launch front) e b.first valid) b.follows)
 
 -- ---- numbers of threads
 
@@ -235,23 +252,25 @@ number_of w e p t attributes reply fits succeeds is =
     ∙ ap (λ q. (counts_of w q).threads + 1) succeeds.process
 
 pub thread_numbers_go_up : ThreadNumbersGoUp
-thread_numbers_go_up launch front e middle f rest p t u first second legal made other =
+thread_numbers_go_up launch front e middle f rest p t u first second begins legal made other =
     let b = between launch front e middle f rest legal in
     let w = world launch front in
-    let begins : t ≡ (counts_of w p).threads + 1 = number_of w e p t first made.0 b.first made.1 made.2 in
+    let valid = world_is_valid launch front begins (legal_front launch front (e ∷ (middle ++ f ∷ rest)) legal) in
+    let first_is : t ≡ (counts_of w p).threads + 1 = number_of w e p t first made.0 b.first made.1 made.2 in
     let ends : u ≡ (counts_of (world launch (front ++ e ∷ middle)) p).threads + 1 =
     number_of (world launch (front ++ e ∷ middle)) f p u second other.0 b.second other.1 other.2 in
     let counted = (call_counts w e (ThreadCreate first) (answer.Reply made.0) b.first made.1.act).0
     ∙ ap (λ x. (counts_of w e.pid).threads + (if x then 1 else 0)) (ap is_success made.1.done) in
     let one : (counts_of (apply w e) p).threads ≡ (counts_of w p).threads + 1 =
     subst (λ q. (counts_of (apply w e) q).threads ≡ (counts_of w q).threads + 1) made.1.process counted in
-    let more : (counts_of (apply w e) p).threads ≤ (counts_of (world launch (front ++ e ∷ middle)) p).threads = (counts_between launch front e middle f p b).threads in
-    omega (arith, begins, ends, one, more)
+    let more : (counts_of (apply w e) p).threads ≤ (counts_of (world launch (front ++ e ∷ middle)) p).threads = (counts_between launch front e middle f p valid b).threads in
+    omega (arith, first_is, ends, one, more)
 
 -- a number that was counted, of a thread that isn't there
 record IsSpent (w : World) (p t : ℕ) : Type 0 where
   counted : t ≤ (counts_of w p).threads
   gone : thread_of w.state p t ≡ None
+  made : Made w p
 
 killed_thread : (o : Option ProcessState) (t : ℕ)
     → thread_in (option_map (λ (own : ProcessState). own.threads) (option_map (λ (own : ProcessState). ended_process (Some own)) o)) t ≡ None
@@ -301,14 +320,15 @@ entry_gone w e p t valid fits spent =
           (λ own. none_while_live (apply w e).state e.pid t (apply_valid w e fits valid)
           (subst (λ (v : World). get v.state.statuses e.pid ≡ Some Live → thread_of v.state e.pid t ≡ None) (sym (apply_is w e))
           (act_gone (turned w e.pid e.turns) (who_of w.state e) (guest_of w e.pid) e.turns e.act t fits.act own.counted own.gone))) spent
-      | inr apart ↦ other_gone w.state (apply w e).state p t (apply_process w e p fits apart.1) spent.gone
+      | inr apart ↦ other_gone w.state (apply w e).state p t
+          (apply_process w e p valid fits apart.1 (λ there. (born_is_new w e p valid fits there).0 spent.made)) spent.gone
     ]
 
 entry_spent : (w : World) (e : Entry) (p t : ℕ) → IsValid w.state → Fits w e → IsSpent w p t → IsSpent (apply w e) p t
 entry_spent w e p t valid fits spent =
     let counted = spent.counted in
-    let more = (entry_counts w e p fits).threads in
-    record { counted = omega (arith, counted, more); gone = entry_gone w e p t valid fits spent }
+    let more = (entry_counts w e p valid fits).threads in
+    record { counted = omega (arith, counted, more); gone = entry_gone w e p t valid fits spent; made = apply_made w e p fits spent.made }
 
 all_spent : (w : World) (history : List Entry) (p t : ℕ) → IsValid w.state → FollowsFrom w history → IsSpent w p t → IsSpent (apply_all w history) p t
 unfolding FollowsFrom apply_all
@@ -316,27 +336,35 @@ all_spent w [] p t valid follows spent = spent
 all_spent w (e ∷ history) p t valid follows spent =
     all_spent (apply w e) history p t (apply_valid w e follows.0 valid) follows.1 (entry_spent w e p t valid follows.0 spent)
 
+thread_made : (S : State) (p t : ℕ) → IsValid S → IsSome (thread_of S p t) → IsSome (get S.statuses p)
+thread_made S p t valid there =
+    elim (thread_of S p t) as (λ o. thread_of S p t ≡ o → IsSome (get S.statuses p)) [
+      | None ↦ λ none. absurd (not_true (subst IsSome none there))
+      | Some thread ↦ λ is. ap is_some (thread_lives S p t thread valid is)
+    ] refl
+
 pub gone_stays_gone : GoneStaysGone
 gone_stays_gone launch front middle rest p t begins legal there gone =
     let w = world launch front in
     let other : Legal launch ((front ++ middle) ++ rest) = subst (Legal launch) (sym (append_assoc front middle rest)) legal in
     let early : Legal launch (front ++ middle) = legal_front launch (front ++ middle) rest other in
-    let first : t ≤ (counts_of w p).threads =
-    (world_is_valid launch front begins (legal_front launch front middle early)).nearly.numbered p t there in
+    let valid = world_is_valid launch front begins (legal_front launch front middle early) in
+    let first : t ≤ (counts_of w p).threads = valid.nearly.numbered p t there in
     let more : (counts_of w p).threads ≤ (counts_of (world launch (front ++ middle)) p).threads =
     subst (λ (v : World). (counts_of w p).threads ≤ (counts_of v p).threads) (sym (world_rest launch front middle))
-    (all_counts w middle p (legal_rest launch front middle early)).threads in
+    (all_counts w middle p valid (legal_rest launch front middle early)).threads in
+    let made = made_later launch front middle p early (thread_made w.state p t valid there) in
     let spent = all_spent (world launch (front ++ middle)) rest p t (world_is_valid launch (front ++ middle) begins early)
-    (legal_rest launch (front ++ middle) rest other) (record { counted = omega (arith, first, more); gone = gone }) in
+    (legal_rest launch (front ++ middle) rest other) (record { counted = omega (arith, first, more); gone = gone; made = made }) in
     subst (λ (v : World). thread_of v.state p t ≡ None)
     (sym (world_rest launch (front ++ middle) rest) ∙ ap (world launch) (append_assoc front middle rest)) spent.gone
 
 pub others_keep_threads : OthersKeepThreads
-others_keep_threads w e q fits other =
+others_keep_threads w e q valid fits other unborn =
     elim (is_idle e.act) as (λ b. is_idle e.act ≡ b → ((t : ℕ) → thread_of (apply w e).state q t ≡ thread_of w.state q t)
     ⊎ ((get (apply w e).state.statuses q ≡ Some (Killed Kill)) × ((t : ℕ) → thread_of (apply w e).state q t ≡ None))) [
       | true ↦ λ idle. inl (λ t. ap (λ o. thread_in o t) (same_threads (apply w e) w q (idle_leaves w e q fits idle)))
-      | false ↦ λ done. elim (apply_process w e q fits (other_process q e done other)) [
+      | false ↦ λ done. elim (apply_process w e q valid fits (other_process q e done other) unborn) [
         | inl same ↦ inl (λ t. ap (λ o. thread_in (option_map (λ (own : ProcessState). own.threads) o) t) same.1)
         | inr killed ↦ inr (
           killed.1.1,
@@ -356,26 +384,28 @@ draw_is_own w e p length reply valid fits draws =
     ∙ ap (λ q. Content (random_bytes w.constants.key q (place_of w q) length)) draws.process
 
 pub draws_are_apart : DrawsAreApart
-draws_are_apart launch front e middle f rest p length size reply other legal draws later =
+draws_are_apart launch front e middle f rest p length size reply other begins legal draws later =
     let b = between launch front e middle f rest legal in
     let w = world launch front in
+    let valid = world_is_valid launch front begins (legal_front launch front (e ∷ (middle ++ f ∷ rest)) legal) in
     let counted = (call_counts w e (RandomGet length) (answer.Reply reply) b.first draws.act).1
     ∙ ap (λ x. (counts_of w e.pid).words + (if x then words_of length else 0)) (ap is_success draws.done) in
     let moved : (counts_of (apply w e) p).words ≡ (counts_of w p).words + words_of length =
     subst (λ q. (counts_of (apply w e) q).words ≡ (counts_of w q).words + words_of length) draws.process counted in
-    let more : (counts_of (apply w e) p).words ≤ (counts_of (world launch (front ++ e ∷ middle)) p).words = (counts_between launch front e middle f p b).words in
+    let more : (counts_of (apply w e) p).words ≤ (counts_of (world launch (front ++ e ∷ middle)) p).words = (counts_between launch front e middle f p valid b).words in
     subst (λ n. n ≤ place_of (world launch (front ++ e ∷ middle)) p) moved more
 
-first_words : (launch : Launch) (history : List Entry) → Legal launch history → (counts_of (start_world launch) 0).words ≤ (counts_of (world launch history) 0).words
+first_words : (launch : Launch) (history : List Entry) → MayBegin launch.tree launch.grants → Legal launch history
+    → (counts_of (start_world launch) 0).words ≤ (counts_of (world launch history) 0).words
 unfolding Legal world
-first_words launch history legal = (all_counts (start_world launch) history 0 legal).words
+first_words launch history begins legal = (all_counts (start_world launch) history 0 (first_valid launch begins) legal).words
 
 pub canary_is_apart : CanaryIsApart
 canary_is_apart = record {
   memory = λ launch. ap (λ (g : Guest). g.memory) (first_guest_is launch);
-  behind = λ launch history legal. (
+  behind = λ launch history begins legal. (
       let start : (counts_of (start_world launch) 0).words ≡ 16 = start_words launch in
-      let more = first_words launch history legal in
+      let more = first_words launch history begins legal in
       let all : words_of 64 ≡ 16 = refl in
       omega (arith, start, more, all));
 }
@@ -383,14 +413,13 @@ canary_is_apart = record {
 -- ---- bounds
 
 first_bound : (launch : Launch) (history : List Entry) (p : ℕ) → IsBounded launch → Legal launch history
-    → Within (counts_of (start_world launch) p) (counts_of (world launch history) p) (turns_taken history)
+    → Within (counts_of (world launch history) p) (turns_taken history)
 unfolding Legal world
-first_bound launch history p bounded legal = all_bound (start_world launch) history p (first_valid launch bounded.begins) legal
+first_bound launch history p bounded legal = all_bound launch history p (first_valid launch bounded.begins) legal
 
 pub numbers_suffice : NumbersSuffice
 numbers_suffice launch history p length own bounded legal there few =
     let bound = first_bound launch history p bounded legal in
-    let start = start_counts launch p in
     let turns : turns_taken history ≤ launch.turns = turns_are_bounded launch history legal in
     let most : launch.turns ≤ 1000000000 = bounded.turns in
     let same : counts_of (world launch history) p ≡ own.counts = ap counts_in there in
@@ -398,7 +427,7 @@ numbers_suffice launch history p length own bounded legal there few =
     let words : (counts_of (world launch history) p).words ≡ own.counts.words = ap (λ (c : Counts). c.words) same in
     let first = bound.threads in
     let second = bound.words in
-    (omega (arith, first, start.0, turns, most, threads), omega (arith, second, start.1, turns, most, words, few))
+    (omega (arith, first, turns, most, threads), omega (arith, second, turns, most, words, few))
 
 -- ---- clocks
 

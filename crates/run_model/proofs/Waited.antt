@@ -86,7 +86,7 @@ entry_called w history e (act.Call call given) is entry valid fits before =
           ∙ (step_moves_only w.constants w.state who call given T fits.1).clock ∙ sym (runs_since w.state e fits.0.0.3.0);
       memory = (turned_guest_by e.turns (guest_of w e.pid)).memory;
       registers = registers_of (turned_guest_by e.turns (guest_of w e.pid)) e.tid;
-      encoded = fits.0.1;
+      encoded = ((turned_guest_by e.turns (guest_of w e.pid)).left, fits.0.1);
     }))
     (λ p t. called_more history e p t (thread_of w.state p t) (before p t))
 entry_called w history e (act.Wake call given answered) is entry valid fits before =

@@ -5,10 +5,14 @@
 use Rattle.std.proofs.Common.{◌≡◌, ◌≢◌, ℕ, Bool, true, false, List, [], ◌∷◌, ◌++◌, Option, None, Some, inl, inr, refl, sym, ap, subst, ◌∙◌, arith}
 use Rattle.std.specs.Prelude.{⊤, if◌then◌else◌}
 use Rattle.std.proofs.lemmas.Bool.Decides.{eqb_tells}
+use Rattle.std.specs.Option.{option_map}
 use Rattle.std.specs.FinMap.{insert}
 use Rattle.abi_base.specs.declared.signal.Signal.TheVariants.{Xcpu}
 use Rattle.abi_types.specs.declared.call.Call.{Call}
 use Rattle.abi_types.specs.declared.call.Call.TheVariants as call
+use Rattle.abi_types.specs.declared.call.Call.TheVariants.{ProcExec, ProcFork}
+use Rattle.abi_types.specs.declared.reply.Answer.TheVariants as answer
+use Rattle.abi_types.specs.declared.reply.WordWrites.{WordWrites}
 use Rattle.abi_types.specs.Families.{is_anonymous}
 use Rattle.abi_types.specs.declared.reply.Answer.{Answer}
 use Rattle.abi_types.specs.declared.status.Status.TheVariants.{Killed}
@@ -20,35 +24,40 @@ use Rattle.run_types.specs.declared.history.Act.{Act}
 use Rattle.run_types.specs.declared.history.Act.TheVariants as act
 use Rattle.run_types.specs.declared.history.Entry.{Entry}
 use Rattle.run_types.specs.declared.launch.Launch.{Launch}
+use Rattle.abi_base.specs.Registers.{Registers}
 use Rattle.guest_memory.specs.Page.{Pages}
 use Rattle.tree_model.specs.Grants.{MayBegin}
 use Rattle.kernel_model.specs.Families.FileMeaning.{on_open}
 use Rattle.kernel_model.specs.Families.MemoryCalls.{map_row, map_zeros, mapping}
 use Rattle.kernel_model.specs.Meaning.{Meaning}
-use Rattle.kernel_model.specs.State.{State, thread_of}
-use Rattle.kernel_model.specs.Threads.{ends_caller, first_result, makes_thread}
+use Rattle.kernel_model.specs.State.{ProcessState, State, thread_in, thread_of}
+use Rattle.kernel_model.specs.Threads.{child_told, ends_caller, ends_others, first_result, is_success, makes_thread}
+use Rattle.kernel_model.specs.Step.{IsStep}
 use Rattle.kernel_model.specs.Waits.{may_wait, IsParked}
 use Rattle.kernel_model.specs.Wakes.{HasThread}
-use Rattle.kernel_model.proofs.Tests.{not_true}
+use Rattle.kernel_model.proofs.Tests.{none_is_no, not_true}
 use Rattle.kernel_model.specs.Valid.{IsValid}
 use Rattle.kernel_model.proofs.Starts.{start_runs}
-use Rattle.kernel_model.proofs.Steps.{step_keeps_valid}
+use Rattle.kernel_model.proofs.Steps.{fork_tells_child, step_keeps_valid, step_moves_only}
 use Rattle.kernel_model.proofs.ThreadLaws.{create_number}
 use Rattle.kernel_model.proofs.Waking.{end_each, step_each, wake_each, wake_keeps}
 use Rattle.maps.specs.Maps.{get-insert-same, get-insert-other, weight}
 use Rattle.rv_interp.specs.declared.turns.TurnEnd.{TurnEnd}
-use Rattle.call_codec.specs.Arguments.{args_of}
+use Rattle.call_codec.specs.Arguments.{args_of, Encodes}
 use Rattle.call_codec.specs.Given.{CanWait}
 use Rattle.call_codec.specs.Put.{answered_of}
 use Rattle.run_model.specs.Ends.{wakes_left}
 use Rattle.run_model.specs.Legal.{AreWhole, Asks, FitsAct, FollowsFrom, IsRunnable, LastEnds, Legal}
-use Rattle.run_model.specs.World.{World, Guest, acted, apply, apply_all, called_guest, called_state, guest_of, or_no_guest, or_no_registers, registers_of, start_world, thread_turn, turned, turned_guest, turned_guest_by, who_of, with_guest, woken_state, world}
+use Rattle.run_model.specs.World.{World, Guest, acted, answered_guest, apply, apply_all, begun_guest, called_guest, child_guest, less_share, called_state, guest_of, or_no_guest, or_no_registers, registers_of, start_world, thread_turn, turned, turned_guest, turned_guest_by, who_of, with_guest, woken_state, world}
+use Rattle.run_model.proofs.BornParts.{is_child_of}
 use Rattle.run_model.proofs.Ends.{killed_is_not_live}
 use Rattle.run_model.proofs.Histories.{apply_is, first_state, guest_set, guest_turned}
+use Rattle.run_model.proofs.Registers.{call_guest}
+use Rattle.run_model.proofs.Running.{none_while_live}
 use Rattle.run_model.proofs.ThreadRegisters.{called_kept, parked_ends, parked_makes}
 use Rattle.run_model.proofs.Waited.{parked_is}
 use Rattle.run_model.proofs.Wakes.{woken_thread}
-use Rattle.run_model.proofs.Worlds.{apply_valid, first_valid}
+use Rattle.run_model.proofs.Worlds.{apply_valid, beside_child, first_valid}
 
 abbrev DoesWait : Option Thread → Type 0
 DoesWait None = ⊥
@@ -59,7 +68,7 @@ DoesWait (Some (Waits call since until)) = ⊤
 abbrev IsEncoded : Guest → ℕ → Option Thread → Type 0
 IsEncoded guest t None = ⊤
 IsEncoded guest t (Some Runnable) = ⊤
-IsEncoded guest t (Some (Waits call since until)) = (m : Pages) × (call ≡ args_of m (registers_of guest t))
+IsEncoded guest t (Some (Waits call since until)) = (m : Pages) × Encodes m (registers_of guest t) call
 
 runs_not_waits : (o : Option Thread) → o ≡ Some Runnable → DoesWait o → ⊥
 runs_not_waits o runs waits = subst DoesWait runs waits
@@ -72,7 +81,8 @@ same_encoded : (guest after : Guest) (t : ℕ) (o : Option Thread) → (DoesWait
     → IsEncoded after t o
 same_encoded guest after t None same encoded = tt
 same_encoded guest after t (Some Runnable) same encoded = tt
-same_encoded guest after t (Some (Waits call since until)) same encoded = (encoded.0, encoded.1 ∙ ap (args_of encoded.0) (sym (same tt)))
+same_encoded guest after t (Some (Waits call since until)) same encoded =
+    (encoded.0, (encoded.1.0, encoded.1.1 ∙ ap (λ (r : Registers). args_of encoded.0 r encoded.1.0) (sym (same tt))))
 
 -- a thread that has no wake left doesn't wait
 awake_encoded : (guest : Guest) (t : ℕ) (o : Option Thread) → weight wakes_left o ≡ 0 → IsEncoded guest t o
@@ -142,7 +152,8 @@ module _ (w : World) (who : Who) (ts : List ℕ) (run : AreOfRunning w.state who
     answered = called_guest (guest_of turned_world who.pid) who.tid call given
 
     called_keeps : (q t : ℕ) → DoesWait (thread_of w.state q t) → (q ≡ who.pid → t ≢ who.tid)
-        → (q ≡ who.pid → makes_thread call given ≡ true → t ≢ first_result given) → registers_of (guest_of (with_guest turned_world who.pid answered) q) t ≡ registers_of (guest_of w q) t
+        → (q ≡ who.pid → makes_thread call given ≡ true → t ≢ first_result given)
+        → registers_of (guest_of (with_guest turned_world who.pid answered) q) t ≡ registers_of (guest_of w q) t
     called_keeps q t waits apart old =
         elim (eqb_tells q who.pid) [
           | inl is ↦ (ap (λ k. registers_of (guest_of (with_guest turned_world who.pid answered) k) t) is.1
@@ -158,7 +169,8 @@ module _ (w : World) (who : Who) (ts : List ℕ) (run : AreOfRunning w.state who
         ]
 
     -- the thread's own registers after it, where it goes on
-    own_registers : ends_caller call given ≡ false → makes_thread call given ≡ false → registers_of (guest_of (with_guest turned_world who.pid answered) who.pid) who.tid
+    own_registers : ends_caller call given ≡ false → makes_thread call given ≡ false
+        → registers_of (guest_of (with_guest turned_world who.pid answered) who.pid) who.tid
         ≡ answered_of (registers_of (turned_guest_by ts (guest_of w who.pid)) who.tid) call given
     own_registers lasts makes =
         ap (λ (g : Guest). registers_of g who.tid) (guest_set turned_world who.pid answered)
@@ -168,6 +180,65 @@ module _ (w : World) (who : Who) (ts : List ℕ) (run : AreOfRunning w.state who
         ∙ ap or_no_registers (get-insert-same (guest_of turned_world who.pid).regs who.tid
         (answered_of (registers_of (guest_of turned_world who.pid) who.tid) call given))
         ∙ ap (λ (g : Guest). answered_of (registers_of g who.tid) call given) (guest_turned w who.pid ts)
+
+-- ---- calls
+
+-- an answer leaves what the registers of another thread are, unless another program begins
+share_registers : (child : Option ℕ) (guest : Guest) (t : ℕ) → registers_of (less_share child guest) t ≡ registers_of guest t
+share_registers None guest t = refl
+share_registers (Some child) guest t = refl
+
+no_program : (b : Bool) (first second : Guest) (t : ℕ) → b ≡ false → registers_of (if b then first else second) t ≡ registers_of second t
+no_program true first second t is = absurd (not_true (sym is))
+no_program false first second t is = refl
+
+answered_same : (p : ℕ) (guest : Guest) (tid : ℕ) (call : Call) (given : Answer) (t : ℕ) → ends_others call given ≡ false
+    → registers_of (answered_guest p guest tid call given) t ≡ registers_of (called_guest guest tid call given) t
+answered_same p guest tid (ProcExec fd bytes fds) (answer.Parked writes) t stays = refl
+answered_same p guest tid (ProcExec fd bytes fds) (answer.Reply reply) t stays =
+    no_program (is_success reply.errno) (begun_guest guest p tid bytes reply.payload) (called_guest guest tid (ProcExec fd bytes fds) (answer.Reply reply)) t stays
+answered_same p guest tid (ProcFork left) given t stays =
+    share_registers (child_told (ProcFork left) given) (called_guest guest tid (ProcFork left) given) t
+answered_same p guest tid call given t stays = refl
+
+parked_stays : (call : Call) (writes : WordWrites) → ends_others call (answer.Parked writes) ≡ false
+parked_stays (ProcExec fd bytes fds) writes = refl
+parked_stays _ writes = refl
+
+parked_tells : (call : Call) (writes : WordWrites) → child_told call (answer.Parked writes) ≡ None
+parked_tells (ProcFork left) writes = refl
+parked_tells _ writes = refl
+
+module _ (w : World) (who : Who) (ts : List ℕ) (run : AreOfRunning w.state who.pid ts) (call : Call) (given : Answer) where
+  abbrev after : World
+  after = acted (turned w who.pid ts) who (act.Call call given)
+
+  here_after : child_told call given ≢ Some who.pid → ends_others call given ≡ false → (t : ℕ)
+      → registers_of (guest_of after who.pid) t
+      ≡ registers_of (guest_of (with_guest (turned w who.pid ts) who.pid (called_guest (guest_of (turned w who.pid ts) who.pid) who.tid call given)) who.pid) t
+  here_after unborn stays t =
+      let before = guest_of (turned w who.pid ts) who.pid in
+      ap (λ (g : Guest). registers_of g t) (call_guest (turned w who.pid ts) who call given unborn)
+      ∙ answered_same who.pid before who.tid call given t stays
+      ∙ sym (ap (λ (g : Guest). registers_of g t) (guest_set (turned w who.pid ts) who.pid (called_guest before who.tid call given)))
+
+  answered_keeps : (q t : ℕ) → DoesWait (thread_of w.state q t) → child_told call given ≢ Some q → (q ≡ who.pid → t ≢ who.tid)
+      → (q ≡ who.pid → makes_thread call given ≡ true → t ≢ first_result given) → (q ≡ who.pid → ends_others call given ≡ false)
+      → registers_of (guest_of after q) t ≡ registers_of (guest_of w q) t
+  answered_keeps q t waits unborn apart old stays =
+      elim (eqb_tells q who.pid) [
+        | inl is ↦ ap (λ k. registers_of (guest_of after k) t) is.1
+            ∙ here_after (λ told. unborn (told ∙ ap Some (sym is.1))) (stays is.1) t
+            ∙ ap (λ k. registers_of (guest_of (with_guest (turned w who.pid ts) who.pid
+            (called_guest (guest_of (turned w who.pid ts) who.pid) who.tid call given)) k) t) (sym is.1)
+            ∙ called_keeps w who ts run call given q t waits apart old
+        | inr other ↦ ap (λ o. registers_of (or_no_guest o) t)
+            (beside_child (child_told call given) (child_guest (guest_of (turned w who.pid ts) who.pid) who.tid)
+            (insert (turned w who.pid ts).guests who.pid (answered_guest who.pid (guest_of (turned w who.pid ts) who.pid) who.tid call given)) q unborn
+            ∙ get-insert-other (turned w who.pid ts).guests who.pid
+            (answered_guest who.pid (guest_of (turned w who.pid ts) who.pid) who.tid call given) q other.1)
+            ∙ turned_keeps w who ts run q t waits
+      ]
 
 -- ---- entries
 
@@ -189,28 +260,69 @@ wake_others w who ts run call given answered valid fits before q t apart =
     (λ _ makes. absurd (not_true (sym (wake_keeps w.state who call answered valid fits.0.1).2 ∙ makes)))) (before q t))
     q t apart
 
+-- whether a thread's registers are the same after the call: it is that of the call, or another that goes on
+abbrev Stays : Who → Call → Answer → ℕ → ℕ → Type 0
+Stays who call given q t = q ≡ who.pid → t ≢ who.tid → ends_others call given ≡ false
+
+-- a thread that doesn't go on is no more
+stays_or_gone : (w : World) (who : Who) (ts : List ℕ) (call : Call) (given : Answer) → IsValid w.state
+    → IsStep w.constants w.state who call given (called_state w.constants w.state who call given) → (q t : ℕ)
+    → (Stays who call given q t → IsEncoded (guest_of (acted (turned w who.pid ts) who (act.Call call given)) q) t
+    (thread_of (called_state w.constants w.state who call given) q t))
+    → IsEncoded (guest_of (acted (turned w who.pid ts) who (act.Call call given)) q) t (thread_of (called_state w.constants w.state who call given) q t)
+stays_or_gone w who ts call given valid step q t if_stays =
+    let v : World = acted (turned w who.pid ts) who (act.Call call given) in
+    let T = called_state w.constants w.state who call given in
+    elim (ends_others call given) as (λ b. ends_others call given ≡ b → IsEncoded (guest_of v q) t (thread_of T q t)) [
+      | false ↦ λ stay. if_stays (λ _ _. stay)
+      | true ↦ λ clears. elim (eqb_tells q who.pid) [
+        | inr other ↦ if_stays (λ is. absurd (other.1 is))
+        | inl is ↦ elim (eqb_tells t who.tid) [
+          | inl same ↦ if_stays (λ _ apart. absurd (apart same.1))
+          | inr apart ↦ (
+              let gone : thread_of T who.pid t ≡ None =
+              none_while_live T who.pid t (step_keeps_valid w.constants w.state who call given T step valid)
+              (λ live. ((step_moves_only w.constants w.state who call given T step).threads live).alone clears t apart.1) in
+              subst (IsEncoded (guest_of v q) t) (sym (ap (λ k. thread_of T k t) is.1 ∙ gone)) tt)
+        ]
+      ]
+    ] refl
+
 acted_encoded : (w : World) (who : Who) (ts : List ℕ) (a : Act) → IsValid w.state → FitsAct w.constants w.state who (guest_of w who.pid) ts a → AllEncoded w
     → AllEncoded (acted (turned w who.pid ts) who a)
 acted_encoded w who ts (act.Call call given) valid fits before =
     let run = asks_run w.state who (guest_of w who.pid) ts (act.Call call given) fits.0 in
     let v : World = acted (turned w who.pid ts) who (act.Call call given) in
     let T = called_state w.constants w.state who call given in
-    step_each (λ q t o. IsEncoded (guest_of v q) t o) (λ q t. tt) (λ q t. tt) w.constants w.state who call given T fits.1
+    let told = fork_tells_child w.constants w.state who call given T fits.1 in
+    λ p u. stays_or_gone w who ts call given valid fits.1 p u
+    (step_each (λ q t o. Stays who call given q t → IsEncoded (guest_of v q) t o) (λ q t _. tt) (λ q t _. tt) w.constants w.state who call given T fits.1
     (step_keeps_valid w.constants w.state who call given T fits.1 valid)
-    (λ parked.
-    let writes = parked_is given parked in (
-      (turned_guest_by ts (guest_of w who.pid)).memory,
-      fits.0.1 ∙ ap (args_of (turned_guest_by ts (guest_of w who.pid)).memory)
-          (sym (own_registers w who ts run call given (ap (ends_caller call) writes.1 ∙ parked_ends call writes.0)
-          (ap (makes_thread call) writes.1 ∙ parked_makes call writes.0) ∙ ap (answered_of (registers_of (turned_guest_by ts (guest_of w who.pid)) who.tid) call) writes.1)),
+    (λ parked _.
+    let writes = parked_is given parked in
+    let guest : Guest = turned_guest_by ts (guest_of w who.pid) in (
+      guest.memory,
+      (
+        guest.left,
+        fits.0.1 ∙ ap (λ (r : Registers). args_of guest.memory r guest.left)
+            (sym (here_after w who ts run call given
+            (λ is. none_is_no who.pid (sym (ap (child_told call) writes.1 ∙ parked_tells call writes.0) ∙ is))
+            (ap (ends_others call) writes.1 ∙ parked_stays call writes.0) who.tid
+            ∙ own_registers w who ts run call given (ap (ends_caller call) writes.1 ∙ parked_ends call writes.0)
+            (ap (makes_thread call) writes.1 ∙ parked_makes call writes.0) ∙ ap (answered_of (registers_of guest who.tid) call) writes.1)),
+      ),
     ))
-    (λ q t. same_encoded (guest_of w q) (guest_of v q) t (thread_of w.state q t)
-    (λ waits. called_keeps w who ts run call given q t waits
+    (λ q t stays. same_encoded (guest_of w q) (guest_of v q) t (thread_of w.state q t)
+    (λ waits. answered_keeps w who ts run call given q t waits
+    (λ is. (
+    let new = (is_child_of w.constants w.state who call given T q valid fits.1 (sym told ∙ is)).new in
+    none_not_waits (thread_of w.state q t) (ap (λ o. thread_in (option_map (λ (own : ProcessState). own.threads) o) t) new) waits))
     (λ is same. runs_not_waits (thread_of w.state q t) ((λ i. thread_of w.state (is i) (same i)) ∙ fits.0.0.3.0) waits)
     (λ is makes new. (
     let number = create_number w.constants w.state who call given T fits.1 makes in
-    none_not_waits (thread_of w.state q t) ((λ i. thread_of w.state (is i) ((new ∙ number.0) i)) ∙ number.1) waits)))
-    (before q t))
+    none_not_waits (thread_of w.state q t) ((λ i. thread_of w.state (is i) ((new ∙ number.0) i)) ∙ number.1) waits))
+    (λ is. stays is (λ same. runs_not_waits (thread_of w.state q t) ((λ i. thread_of w.state (is i) (same i)) ∙ fits.0.0.3.0) waits)))
+    (before q t)) p u)
 acted_encoded w who ts (act.Wake call given answered) valid fits before =
     let run = asks_run w.state who (guest_of w who.pid) ts (act.Wake call given answered) fits.0 in
     let v : World = acted (turned w who.pid ts) who (act.Wake call given answered) in
@@ -254,7 +366,7 @@ start_encoded launch p t =
 
 pub waits_are_encoded : (launch : Launch) (history : List Entry) (p t : ℕ) (call : Call) (since : ℕ) (until : Option ℕ) → MayBegin launch.tree launch.grants
     → Legal launch history → thread_of (world launch history).state p t ≡ Some (Waits call since until)
-    → (m : Pages) × (call ≡ args_of m (registers_of (guest_of (world launch history) p) t))
+    → (m : Pages) × Encodes m (registers_of (guest_of (world launch history) p) t) call
 unfolding Legal world
 waits_are_encoded launch history p t call since until begins legal there =
     subst (IsEncoded (guest_of (apply_all (start_world launch) history) p) t) there

@@ -19,22 +19,24 @@ use Rattle.abi_types.specs.declared.thread.Thread.TheVariants.{Runnable, Waits}
 use Rattle.abi_types.specs.declared.wake.WakeIn.{WakeIn}
 use Rattle.abi_types.specs.declared.wake.WakeIn.TheVariants as wake
 use Rattle.abi_types.specs.declared.who.Who.{Who}
+use Rattle.kernel_model.specs.Families.ForkCalls.{child_process}
 use Rattle.kernel_model.specs.Families.ProcessCalls.{ended_process}
 use Rattle.kernel_model.specs.Laws.{HasSameProcess, IsKilled}
 use Rattle.kernel_model.specs.Outcome.{is_parked}
 use Rattle.kernel_model.specs.State.{State, ProcessState, Threads, thread_in, thread_of}
 use Rattle.kernel_model.specs.Step.{end_state, IsStep}
-use Rattle.kernel_model.specs.Threads.{IsCallerAfter}
+use Rattle.kernel_model.specs.Threads.{child_made, IsCallerAfter}
 use Rattle.kernel_model.specs.Valid.{IsValid}
 use Rattle.kernel_model.specs.Waits.{resumed, waiting, WaitsIn}
 use Rattle.kernel_model.specs.Wakes.{IsWake}
 use Rattle.kernel_model.proofs.Steps.{end_ends_only, end_valid, step_keeps_valid, step_moves_only}
 use Rattle.kernel_model.proofs.Tests.{not_true, same_some}
 use Rattle.kernel_model.proofs.Threading.{thread_apart, thread_here, with_apart}
-use Rattle.kernel_model.proofs.Waking.{caller_after, ended_thread, other_after, resumed_valid}
+use Rattle.kernel_model.proofs.Waking.{caller_after, ended_thread, other_after, resumed_valid, same_child}
 use Rattle.maps.specs.Closure.{total_below}
-use Rattle.maps.specs.Maps.{get-remove-same, get-remove-other, total, weight, total_none, total-empty, total-remove}
+use Rattle.maps.specs.Maps.{get-remove-same, get-remove-other, total, weight, total_none, total-empty, total-insert, total-remove}
 use Rattle.run_model.specs.Ends.{wakes_left, all_wakes_left}
+use Rattle.run_model.proofs.BornParts.{is_child_of}
 
 -- where no other key weighs more in m than in n, the total of m is greater by no more than what the key k weighs more
 pub total_around : {X : Type 0} (f : X → ℕ) (m n : FinMap nat_cmp X) (k : ℕ) → ((q : ℕ) → q ≢ k → weight f (get m q) ≤ weight f (get n q))
@@ -111,10 +113,10 @@ other_wakes : (S T : State) (q : ℕ) → HasSameProcess T S q ⊎ IsKilled S T 
 other_wakes S T q (inl same) = let is = ap (weight all_wakes_left) same.1 in omega (arith, is)
 other_wakes S T q (inr killed) = let none = ap (weight all_wakes_left) killed.0.1 ∙ ended_wakes (get S.processes q) in omega (arith, none)
 
-pub wakes_around : (S T : State) (p t : ℕ) → ((q : ℕ) → q ≢ p → HasSameProcess T S q ⊎ IsKilled S T q)
+pub wakes_around : (S T : State) (p t : ℕ) → ((q : ℕ) → q ≢ p → process_wakes T q ≤ process_wakes S q)
     → ((u : ℕ) → u ≢ t → thread_wakes T p u ≤ thread_wakes S p u) → all_wakes T + thread_wakes S p t ≤ all_wakes S + thread_wakes T p t
 wakes_around S T p t processes threads =
-    let around = total_around all_wakes_left T.processes S.processes p (λ q apart. other_wakes S T q (processes q apart)) in
+    let around = total_around all_wakes_left T.processes S.processes p processes in
     let own = process_around S T p t threads in
     omega (arith, around, own)
 
@@ -125,10 +127,28 @@ less_or_same a b (inl (inl none)) = let is = ap (weight wakes_left) none in omeg
 less_or_same a b (inl (inr runs)) = let is = ap (weight wakes_left) runs in omega (arith, is)
 less_or_same a b (inr same) = let is = ap (weight wakes_left) same in omega (arith, is)
 
+-- a child's one thread runs
+child_wakes : (t : ℕ) (own : ProcessState) → all_wakes_left (child_process t own) ≡ 0
+child_wakes t own =
+    let none : total wakes_left (empty {R = nat_cmp}) ≡ 0 = total-empty wakes_left in
+    let sums = total-insert wakes_left (empty {R = nat_cmp}) t Runnable in
+    omega (arith, none, sums)
+
+processes_wake : (constants : Constants) (S : State) (who : Who) (call : Call) (given : Answer) (T : State) → IsValid S → IsStep constants S who call given T
+    → (q : ℕ) → q ≢ who.pid → process_wakes T q ≤ process_wakes S q
+processes_wake constants S who call given T valid step q apart =
+    elim (same_child q (child_made call given who.pid (get S.processes who.pid))) [
+      | inl born ↦ (
+          let is = is_child_of constants S who call given T q valid step born in
+          let none : process_wakes T q ≡ 0 = ap (weight all_wakes_left) is.child ∙ child_wakes who.tid is.own in
+          omega (arith, none))
+      | inr other ↦ other_wakes S T q ((step_moves_only constants S who call given T step).others q apart other)
+    ]
+
 step_around : (constants : Constants) (S : State) (who : Who) (call : Call) (given : Answer) (T : State) → IsValid S → IsStep constants S who call given T
     → all_wakes T + thread_wakes S who.pid who.tid ≤ all_wakes S + thread_wakes T who.pid who.tid
 step_around constants S who call given T valid step =
-    wakes_around S T who.pid who.tid (step_moves_only constants S who call given T step).others
+    wakes_around S T who.pid who.tid (processes_wake constants S who call given T valid step)
     (λ u apart. less_or_same (thread_of T who.pid u) (thread_of S who.pid u)
     (other_after constants S who call given T step (step_keeps_valid constants S who call given T step valid) u apart))
 
@@ -169,7 +189,7 @@ woken_thread constants S who call wake.Fault answered T valid kept is =
 
 resumed_around : (S : State) (who : Who) → all_wakes (resumed S who) + thread_wakes S who.pid who.tid ≤ all_wakes S + thread_wakes (resumed S who) who.pid who.tid
 resumed_around S who =
-    wakes_around S (resumed S who) who.pid who.tid (λ q apart. inl (refl, with_apart S who.pid who.tid Runnable q apart, refl))
+    wakes_around S (resumed S who) who.pid who.tid (λ q apart. other_wakes S (resumed S who) q (inl (refl, with_apart S who.pid who.tid Runnable q apart, refl)))
     (λ u apart. less_or_same (thread_of (resumed S who) who.pid u) (thread_of S who.pid u) (inr (thread_apart S who.pid who.tid Runnable u apart)))
 
 woken_around : (constants : Constants) (S : State) (who : Who) (call : Call) (given : WakeIn) (answered : Answer) (T : State) → IsValid S
@@ -198,7 +218,7 @@ end_wakes S p status dead made valid =
     let T = end_state S p status in
     let gone : (u : ℕ) → thread_of T p u ≡ None =
     λ u. ended_thread T p u (Some status) (end_valid S p status made valid) ends.stands (λ e. dead (same_some status Live e)) in
-    let around = wakes_around S T p 0 ends.others (λ u _. less_or_same (thread_of T p u) (thread_of S p u) (inl (inl (gone u)))) in
+    let around = wakes_around S T p 0 (λ q apart. other_wakes S T q (ends.others q apart)) (λ u _. less_or_same (thread_of T p u) (thread_of S p u) (inl (inl (gone u)))) in
     let none : thread_wakes T p 0 ≡ 0 = ap (weight wakes_left) (gone 0) in
     omega (arith, around, none)
 

@@ -1,5 +1,5 @@
 -- What every entry keeps: valid states, the clock's pace, and the guests of other processes.
-use Rattle.std.proofs.Common.{◌≡◌, ◌≢◌, ◌⊎◌, inl, inr, ℕ, ◌+◌, ◌*◌, ◌^◌, ◌≤◌, false, List, [], ◌∷◌, length, is_some, refl, sym, ap, subst, ◌∙◌, arith}
+use Rattle.std.proofs.Common.{◌≡◌, ◌≢◌, ◌⊎◌, inl, inr, ℕ, ◌+◌, ◌*◌, ◌^◌, ◌≤◌, false, Contains, Option, None, Some, List, [], ◌∷◌, length, is_some, refl, sym, ap, subst, ◌∙◌, arith}
 use Rattle.abi_base.specs.declared.signal.Signal.TheVariants.{Xcpu}
 use Rattle.abi_types.specs.declared.status.Status.TheVariants.{Killed}
 use Rattle.abi_types.specs.declared.who.Who.{Who}
@@ -15,14 +15,18 @@ use Rattle.kernel_model.specs.Waits.{HasDeadlines}
 use Rattle.kernel_model.proofs.Deadlines.{jump_goes_on, jump_is_bounded}
 use Rattle.kernel_model.proofs.Readiness.{idle_valid, least_is_soon}
 use Rattle.kernel_model.proofs.Starts.{start_deadlines, start_valid}
-use Rattle.kernel_model.proofs.Tests.{not_true}
+use Rattle.kernel_model.proofs.Tests.{none_is_no, not_true, same_some}
 use Rattle.kernel_model.proofs.Waking.{end_deadlines, step_deadlines, wake_deadlines, wake_keeps_valid, wake_moves_only}
 use Rattle.kernel_model.proofs.Steps.{step_keeps_valid, end_valid, step_moves_only, end_ends_only}
-use Rattle.maps.specs.Maps.{get-insert-other}
+use Rattle.std.specs.FinMap.{FinMap, get, insert}
+use Rattle.std.specs.Ordering.{nat_cmp}
+use Rattle.kernel_model.specs.Threads.{child_told}
+use Rattle.maps.specs.Maps.{get-insert-same, get-insert-other}
 use Rattle.run_model.specs.Laws.{TakesTime, HasNoJump}
 use Rattle.run_model.specs.Legal.{FitsAct, Fits, FollowsFrom, Legal}
-use Rattle.run_model.specs.Own.{is_idle, IsLiveIn}
-use Rattle.run_model.specs.World.{World, Guest, start_world, or_no_guest, guest_of, called_guest, called_state, woken_state, turned_guest_by, turned, acted, who_of, apply, apply_all, world}
+use Rattle.run_model.specs.Own.{born, is_idle, IsLiveIn}
+use Rattle.run_model.proofs.Births.{contains_one, one_contains}
+use Rattle.run_model.specs.World.{World, Guest, start_world, or_no_guest, guest_of, answered_guest, called_guest, child_guest, with_child, called_state, woken_state, turned_guest_by, turned, acted, who_of, apply, apply_all, world}
 use Rattle.run_model.proofs.Ends.{killed_is_not_live}
 use Rattle.run_model.proofs.Histories.{apply_constants, apply_is, first_state}
 
@@ -200,17 +204,43 @@ clock_is_exact launch history legal none =
 turned_others : (w : World) (p : ℕ) (ts : List ℕ) (q : ℕ) → q ≢ p → guest_of (turned w p ts) q ≡ guest_of w q
 turned_others w p ts q n = ap or_no_guest (get-insert-other w.guests p (turned_guest_by ts (guest_of w p)) q n)
 
-acted_others : (w : World) (who : Who) (a : Act) (q : ℕ) → q ≢ who.pid → guest_of (acted w who a) q ≡ guest_of w q
-acted_others w who (act.Call call given) q n =
-    ap or_no_guest (get-insert-other w.guests who.pid (called_guest (guest_of w who.pid) who.tid call given) q n)
-acted_others w who (act.Wake call given answered) q n =
-    ap or_no_guest (get-insert-other w.guests who.pid (called_guest (guest_of w who.pid) who.tid call answered) q n)
-acted_others w who (act.Trap signal) q n = refl
-acted_others w who act.Expire q n = refl
-acted_others w who act.Idle q n = refl
+-- a guest beside the child's
+pub beside_child : (child : Option ℕ) (guest : Guest) (guests : FinMap nat_cmp Guest) (q : ℕ) → child ≢ Some q → get (with_child child guest guests) q ≡ get guests q
+beside_child None guest guests q other = refl
+beside_child (Some c) guest guests q other = get-insert-other guests c guest q (λ is. other (ap Some (sym is)))
 
-pub apply_guest : (w : World) (e : Entry) (q : ℕ) → q ≢ e.pid → guest_of (apply w e) q ≡ guest_of w q
-apply_guest w e q n =
+-- the child's own
+pub child_there : (child : Option ℕ) (guest : Guest) (guests : FinMap nat_cmp Guest) (q : ℕ) → child ≡ Some q → get (with_child child guest guests) q ≡ Some guest
+child_there None guest guests q is = absurd (none_is_no q is)
+child_there (Some c) guest guests q is = ap (get (insert guests c guest)) (sym (same_some c q is)) ∙ get-insert-same guests c guest
+
+acted_others : (w : World) (who : Who) (a : Act) (q : ℕ) → q ≢ who.pid → ¬ Contains (born a) q → guest_of (acted w who a) q ≡ guest_of w q
+acted_others w who (act.Call call given) q n unborn =
+    ap or_no_guest
+    (beside_child (child_told call given) (child_guest (guest_of w who.pid) who.tid)
+    (insert w.guests who.pid (answered_guest who.pid (guest_of w who.pid) who.tid call given)) q (λ is. unborn (one_contains (child_told call given) q is))
+    ∙ get-insert-other w.guests who.pid (answered_guest who.pid (guest_of w who.pid) who.tid call given) q n)
+acted_others w who (act.Wake call given answered) q n unborn =
+    ap or_no_guest (get-insert-other w.guests who.pid (called_guest (guest_of w who.pid) who.tid call answered) q n)
+acted_others w who (act.Trap signal) q n unborn = refl
+acted_others w who act.Expire q n unborn = refl
+acted_others w who act.Idle q n unborn = refl
+
+pub apply_guest : (w : World) (e : Entry) (q : ℕ) → q ≢ e.pid → ¬ Contains (born e.act) q → guest_of (apply w e) q ≡ guest_of w q
+apply_guest w e q n unborn =
     ap (λ v. guest_of v q) (apply_is w e)
-    ∙ acted_others (turned w e.pid e.turns) (who_of w.state e) e.act q n
+    ∙ acted_others (turned w e.pid e.turns) (who_of w.state e) e.act q n unborn
     ∙ turned_others w e.pid e.turns q n
+
+-- the guest of a child is made of its parent's
+pub born_guest : (w : World) (e : Entry) (q : ℕ) → Contains (born e.act) q → guest_of (apply w e) q ≡ child_guest (guest_of (turned w e.pid e.turns) e.pid) e.tid
+born_guest w e q there = ap (λ v. guest_of v q) (apply_is w e) ∙ acted_born (turned w e.pid e.turns) (who_of w.state e) e.act q there where
+  acted_born : (v : World) (who : Who) (a : Act) (q : ℕ) → Contains (born a) q → guest_of (acted v who a) q ≡ child_guest (guest_of v who.pid) who.tid
+  acted_born v who (act.Call call given) q there =
+      ap or_no_guest
+      (child_there (child_told call given) (child_guest (guest_of v who.pid) who.tid)
+      (insert v.guests who.pid (answered_guest who.pid (guest_of v who.pid) who.tid call given)) q (contains_one (child_told call given) q there))
+  acted_born v who (act.Wake call given answered) q there = absurd (omega (arith, there.1))
+  acted_born v who (act.Trap signal) q there = absurd (omega (arith, there.1))
+  acted_born v who act.Expire q there = absurd (omega (arith, there.1))
+  acted_born v who act.Idle q there = absurd (omega (arith, there.1))

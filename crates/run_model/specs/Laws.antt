@@ -18,7 +18,7 @@ use Rattle.kernel_model.specs.State.{thread_of}
 use Rattle.kernel_model.specs.Valid.{IsValid}
 use Rattle.kernel_model.specs.Waits.{HasDeadlines}
 use Rattle.guest_memory.specs.Page.{Pages}
-use Rattle.call_codec.specs.Arguments.{args_of}
+use Rattle.call_codec.specs.Arguments.{args_of, Encodes}
 use Rattle.run_model.specs.Confined.{IsConfined}
 use Rattle.run_model.specs.Ends.{Ended, Stalled, turns_taken, potential}
 use Rattle.run_model.specs.Legal.{Fits, Legal}
@@ -66,11 +66,11 @@ LegalIsConfined = (launch : Launch) (history : List Entry) → Legal launch hist
 -- No call that memory and registers encode answers NOMEM or NOTCAPABLE of its own.
 abbrev pub EncodedIsPlain : Type 0
 EncodedIsPlain =
-    (m : Pages) (r : Registers) → AllByRecursion (λ errno. (errno ≢ Nomem) × (errno ≢ Notcapable)) (errors_of (args_of m r))
+    (m : Pages) (r : Registers) (left : ℕ) → AllByRecursion (λ errno. (errno ≢ Nomem) × (errno ≢ Notcapable)) (errors_of (args_of m r left))
 
 -- None has BADF before the kernel looks at it, and none is a file_stat_fput that sets nothing.
 abbrev pub EncodedIsNotBadf : Type 0
-EncodedIsNotBadf = (m : Pages) (r : Registers) → ¬ IsBadfBefore (args_of m r)
+EncodedIsNotBadf = (m : Pages) (r : Registers) (left : ℕ) → ¬ IsBadfBefore (args_of m r left)
 
 -- ---- worlds
 
@@ -98,7 +98,7 @@ pub record WasCalled (history : List Entry) (p t : ℕ) (call : Call) (since : �
   pub moment : e.moment ≡ since
   pub memory : Pages
   pub registers : Registers
-  pub encoded : call ≡ args_of memory registers
+  pub encoded : Encodes memory registers call
 
 abbrev pub WaitsWereCalled : Type 0
 WaitsWereCalled =
@@ -110,7 +110,7 @@ abbrev pub WaitsAreEncoded : Type 0
 WaitsAreEncoded =
     (launch : Launch) (history : List Entry) (p t : ℕ) (call : Call) (since : ℕ) (until : Option ℕ) → MayBegin launch.tree launch.grants
     → Legal launch history → thread_of (world launch history).state p t ≡ Some (Waits call since until)
-    → (m : Pages) × (call ≡ args_of m (registers_of (guest_of (world launch history) p) t))
+    → (m : Pages) × Encodes m (registers_of (guest_of (world launch history) p) t) call
 
 -- Time goes on by 1000 nanoseconds from the world w to the world v, or more where the act between them is an idle jump. A jump that takes
 -- longer leads to a deadline, of which none counts that is later than 2^62.

@@ -39,14 +39,14 @@ LastEnds S p guest ts t end =
 
 -- What a thread and its process ask for by an act, before the kernel answers. S is the kernel's state before the entry, of which only the
 -- threads of the process matter, and guest is the process's:
--- A call is the one that the thread's registers and memory encode at the ECALL that ended the last turn. A wake is of the call that the
--- thread waits in, after whole turns, and is given what the thread's registers and memory say of the places of its output. A trap is the
--- one that ended the last turn. A process expires where a runnable thread has no turn left. An idle jump has no turns, and the number
--- 0 for its process and its thread.
+-- A call is the one that the thread's registers and memory encode at the ECALL that ended the last turn, with the turns that are left then. A
+-- wake is of the call that the thread waits in, after whole turns, and is given what the thread's registers and memory say of the places of its
+-- output. A trap is the one that ended the last turn. A process expires where a runnable thread has no turn left. An idle jump has no turns, and
+-- the number 0 for its process and its thread.
 abbrev pub Asks : State → Who → Guest → List ℕ → Act → Type 0
 Asks S who guest ts (act.Call call given) =
     LastEnds S who.pid guest ts who.tid turn_end_is.Ecall
-    × (call ≡ args_of (turned_guest_by ts guest).memory (registers_of (turned_guest_by ts guest) who.tid))
+    × (call ≡ args_of (turned_guest_by ts guest).memory (registers_of (turned_guest_by ts guest) who.tid) (turned_guest_by ts guest).left)
 Asks S who guest ts (act.Wake call given answered) =
     AreWhole S who.pid guest ts × WaitsIn S who call
     × (given ≡ given_of (turned_guest_by ts guest).memory (registers_of (turned_guest_by ts guest) who.tid) call)

@@ -1,10 +1,11 @@
 -- Whose an entry is, which processes it makes, and what it leaves of the others.
-use Rattle.std.specs.Prelude.{◌≡◌, ℕ, ◌==◌, ◌&&◌, Bool, true, false, not, List, [], filter, Contains, Some, IsSome}
+use Rattle.std.specs.Prelude.{◌≡◌, ℕ, ◌==◌, ◌&&◌, Bool, true, false, not, List, [], ◌∷◌, filter, Contains, Option, None, Some, IsSome}
 use Rattle.std.specs.FinMap.{get}
 use Rattle.abi_types.specs.declared.status.Status.TheVariants.{Live}
 use Rattle.run_types.specs.declared.history.Act.{Act}
 use Rattle.run_types.specs.declared.history.Act.TheVariants as act
 use Rattle.run_types.specs.declared.history.Entry.{Entry}
+use Rattle.kernel_model.specs.Threads.{child_told}
 use Rattle.run_model.specs.World.{World, guest_of}
 
 -- whether the act is an idle jump, which no process does
@@ -20,8 +21,14 @@ is_own p e = not (is_idle e.act) && (e.pid == p)
 abbrev pub own : ℕ → List Entry → List Entry
 own p history = filter (is_own p) history
 
--- the processes that an act makes: no call makes one yet, and no wake
+-- the number, if there is one
+abbrev pub one_of : Option ℕ → List ℕ
+one_of None = []
+one_of (Some p) = p ∷ []
+
+-- the processes that an act makes: a call makes the child that its answer tells, and no wake makes one
 abbrev pub born : Act → List ℕ
+born (act.Call call given) = one_of (child_told call given)
 born a = []
 
 -- the process was made: it lives, or it has ended

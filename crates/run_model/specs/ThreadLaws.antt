@@ -1,13 +1,13 @@
 -- What holds of threads, random bytes and clocks in legal histories: the statements that are the contracts of the functions of
 -- src/thread_laws.rt.
-use Rattle.std.specs.Prelude.{◌≡◌, ◌≢◌, ◌⊎◌, ℕ, ◌+◌, ◌-◌, ◌^◌, ◌<◌, ◌≤◌, false, List, ◌∷◌, ◌++◌, None, Some, IsSome}
+use Rattle.std.specs.Prelude.{◌≡◌, ◌≢◌, ◌⊎◌, ℕ, ◌+◌, ◌-◌, ◌^◌, ◌<◌, ◌≤◌, false, Contains, List, ◌∷◌, ◌++◌, None, Some, IsSome}
 use Rattle.std.specs.FinMap.{get}
 use Rattle.clock_random.specs.Random.{random_bytes, words_of}
 use Rattle.abi_base.specs.declared.errno.Errno.TheVariants.{Success}
 use Rattle.abi_base.specs.declared.signal.Signal.TheVariants.{Kill}
 use Rattle.abi_structures.specs.declared.structures.ThreadAttr.{ThreadAttr}
 use Rattle.abi_types.specs.declared.call.Call.{Call}
-use Rattle.abi_types.specs.declared.call.Call.TheVariants.{ClockTimeGet, RandomGet, ThreadCreate, ThreadExit}
+use Rattle.abi_types.specs.declared.call.Call.TheVariants.{ClockTimeGet, ProcExec, RandomGet, ThreadCreate, ThreadExit}
 use Rattle.abi_types.specs.declared.reply.Answer.TheVariants as answer
 use Rattle.abi_types.specs.declared.reply.Payload.TheVariants.{Content}
 use Rattle.abi_types.specs.declared.reply.Reply.{Reply}
@@ -23,8 +23,9 @@ use Rattle.call_codec.specs.Start.{start_pages, thread_registers}
 use Rattle.kernel_model.specs.State.{ProcessState, counts_in, thread_of}
 use Rattle.kernel_model.specs.Valid.{IsValid}
 use Rattle.run_model.specs.Legal.{Fits, Legal}
-use Rattle.run_model.specs.Own.{is_own}
-use Rattle.run_model.specs.World.{World, apply, guest_of, registers_of, start_world, turned, world}
+use Rattle.run_model.specs.Own.{born, is_own, IsLiveIn}
+use Rattle.run_model.specs.OwnLaws.{HasOneThread}
+use Rattle.run_model.specs.World.{World, apply, begun_guest, guest_of, registers_of, start_world, turned, world}
 
 -- an entry of the process p is a call that has succeeded, with this reply
 pub record Succeeds (e : Entry) (p : ℕ) (call : Call) (reply : Reply) : Type 0 where
@@ -67,7 +68,7 @@ EndedThreadIsGone =
 abbrev pub ThreadNumbersGoUp : Type 0
 ThreadNumbersGoUp =
     (launch : Launch) (front : List Entry) (e : Entry) (middle : List Entry) (f : Entry) (rest : List Entry) (p t u : ℕ) (first second : ThreadAttr)
-    → Legal launch (front ++ e ∷ (middle ++ f ∷ rest)) → Makes e p t first → Makes f p u second → t < u
+    → MayBegin launch.tree launch.grants → Legal launch (front ++ e ∷ (middle ++ f ∷ rest)) → Makes e p t first → Makes f p u second → t < u
 
 -- A thread that was there and is there no more never comes back: no other gets its number.
 abbrev pub GoneStaysGone : Type 0
@@ -76,12 +77,26 @@ GoneStaysGone =
     → IsSome (thread_of (world launch front).state p t) → thread_of (world launch (front ++ middle)).state p t ≡ None
     → thread_of (world launch (front ++ (middle ++ rest))).state p t ≡ None
 
--- An entry leaves the threads of a process that did not do it as they were: it makes and ends none, unless the process is killed and all end.
+-- An entry leaves the threads of a process that did not do it, and that it doesn't make, as they were: it makes and ends none, unless the
+-- process is killed and all end.
 abbrev pub OthersKeepThreads : Type 0
 OthersKeepThreads =
-    (w : World) (e : Entry) (q : ℕ) → Fits w e → is_own q e ≡ false
+    (w : World) (e : Entry) (q : ℕ) → IsValid w.state → Fits w e → is_own q e ≡ false → ¬ Contains (born e.act) q
     → ((t : ℕ) → thread_of (apply w e).state q t ≡ thread_of w.state q t)
     ⊎ ((get (apply w e).state.statuses q ≡ Some (Killed Kill)) × ((t : ℕ) → thread_of (apply w e).state q t ≡ None))
+
+-- ---- programs
+
+-- A process that lives on in which another program has begun has one thread, that which asked for the program and which runs, and the program's
+-- memory and registers.
+pub record HasBegunProgram (w : World) (e : Entry) (bytes : List ℕ) (reply : Reply) : Type 0 where
+  pub thread : HasOneThread (apply w e) e.pid e.tid
+  pub guest : guest_of (apply w e) e.pid ≡ begun_guest (guest_of (turned w e.pid e.turns) e.pid) e.pid e.tid bytes reply.payload
+
+abbrev pub ProgramBegins : Type 0
+ProgramBegins =
+    (w : World) (e : Entry) (fd : ℕ) (bytes fds : List ℕ) (reply : Reply) → Fits w e → Succeeds e e.pid (ProcExec fd bytes fds) reply
+    → IsLiveIn (apply w e) e.pid → HasBegunProgram w e bytes reply
 
 -- ---- random bytes
 
@@ -103,14 +118,14 @@ DrawIsOwn =
 abbrev pub DrawsAreApart : Type 0
 DrawsAreApart =
     (launch : Launch) (front : List Entry) (e : Entry) (middle : List Entry) (f : Entry) (rest : List Entry) (p length size : ℕ) (reply other : Reply)
-    → Legal launch (front ++ e ∷ (middle ++ f ∷ rest)) → Draws e p length reply → Draws f p size other
+    → MayBegin launch.tree launch.grants → Legal launch (front ++ e ∷ (middle ++ f ∷ rest)) → Draws e p length reply → Draws f p size other
     → place_of (world launch front) p + words_of length ≤ place_of (world launch (front ++ e ∷ middle)) p
 
 -- Process 0 begins with a canary, which is drawn first: it is the bytes from place 0 on, and each later draw begins behind it.
 pub record CanaryIsApart : Type 0 where
   pub memory : (launch : Launch)
       → (guest_of (start_world launch) 0).memory ≡ start_pages launch.elf launch.argdata (random_bytes launch.constants.key 0 0 64) 0 1
-  pub behind : (launch : Launch) (history : List Entry) → Legal launch history → words_of 64 ≤ place_of (world launch history) 0
+  pub behind : (launch : Launch) (history : List Entry) → MayBegin launch.tree launch.grants → Legal launch history → words_of 64 ≤ place_of (world launch history) 0
 
 -- ---- bounds
 

@@ -1,11 +1,13 @@
 -- A kernel's state together with its processes' memories, registers and turns, and how an entry changes them.
-use Rattle.std.specs.Prelude.{ℕ, ◌+◌, ◌-◌, Bool, true, false, List, [], ◌∷◌, Option, None, Some, if◌then◌else◌}
+use Rattle.std.specs.Prelude.{ℕ, ◌+◌, ◌-◌, ◌/◌, Bool, true, false, List, [], ◌∷◌, Option, None, Some, if◌then◌else◌}
 use Rattle.std.specs.Ordering.{nat_cmp}
 use Rattle.std.specs.FinMap.{FinMap, empty, get, insert, remove}
 use Rattle.abi_types.specs.declared.reply.Answer.{Answer}
 use Rattle.abi_types.specs.declared.reply.Answer.TheVariants as answer
 use Rattle.abi_types.specs.declared.call.Call.{Call}
-use Rattle.abi_types.specs.declared.call.Call.TheVariants.{ThreadCreate}
+use Rattle.abi_types.specs.declared.call.Call.TheVariants.{ProcExec, ProcFork, ThreadCreate}
+use Rattle.abi_types.specs.declared.reply.Payload.{Payload}
+use Rattle.abi_types.specs.declared.reply.Payload.TheVariants.{Image}
 use Rattle.abi_types.specs.declared.constants.Constants.{Constants}
 use Rattle.abi_base.specs.declared.errno.Errno.{Errno}
 use Rattle.abi_base.specs.declared.errno.Errno.TheVariants.{Nomem}
@@ -26,10 +28,11 @@ use Rattle.kernel_model.specs.Deadlines.{idle_state}
 use Rattle.kernel_model.specs.Start.{start_state}
 use Rattle.kernel_model.specs.State.{State, thread_of}
 use Rattle.kernel_model.specs.Step.{failed, step_state, end_state}
-use Rattle.kernel_model.specs.Threads.{ends_caller, is_success}
+use Rattle.kernel_model.specs.Threads.{child_told, ends_caller, is_success}
 use Rattle.kernel_model.specs.Waits.{resumed}
 use Rattle.rv_interp.specs.declared.turns.TurnEnd.{TurnEnd}
 use Rattle.rv_interp.specs.Turns.{Turn, turn_of}
+use Rattle.call_codec.specs.Processes.{child_registers, restart_pages, restart_registers}
 use Rattle.call_codec.specs.Start.{canary, first_registers, start_pages, thread_registers}
 use Rattle.call_codec.specs.Put.{answered_memory, answered_of}
 
@@ -152,12 +155,53 @@ called_guest guest t call given = record {
   left = guest.left;
 }
 
+-- ---- another program, and children
+
+-- the guest in which another program begins, by thread t of process p, with this argument data: no other thread has registers
+abbrev pub begun_guest : Guest → ℕ → ℕ → List ℕ → Payload → Guest
+begun_guest guest p t argdata (Image elf canary) = record {
+  memory = restart_pages elf argdata canary p t;
+  regs = insert empty t (restart_registers elf);
+  left = guest.left;
+}
+begun_guest guest p t argdata payload = guest
+
+-- how many of its turns a process gives to a child: a sixteenth of those that it has left
+abbrev pub share : ℕ → ℕ
+share left = left / 16
+
+-- the guest without the turns that it gives to a child, if it has made one
+abbrev pub less_share : Option ℕ → Guest → Guest
+less_share None guest = guest
+less_share (Some child) guest = record guest { left = guest.left - share guest.left }
+
+-- The child's guest, by that of its parent whose thread t forks. Its memory is the parent's. Its thread goes on behind the ECALL as the
+-- parent's does, but its results are that it has no descriptor of a child, and its own number.
+abbrev pub child_guest : Guest → ℕ → Guest
+child_guest guest t = record {
+  memory = guest.memory;
+  regs = insert empty t (child_registers (registers_of guest t) t);
+  left = share guest.left;
+}
+
+abbrev pub with_child : Option ℕ → Guest → FinMap nat_cmp Guest → FinMap nat_cmp Guest
+with_child None guest guests = guests
+with_child (Some child) guest guests = insert guests child guest
+
+-- the guest of process p after a call of its thread that was answered so
+abbrev pub answered_guest : ℕ → Guest → ℕ → Call → Answer → Guest
+answered_guest p guest t (ProcExec fd bytes fds) (answer.Reply reply) =
+    if is_success reply.errno then begun_guest guest p t bytes reply.payload else called_guest guest t (ProcExec fd bytes fds) (answer.Reply reply)
+answered_guest p guest t (ProcFork left) given = less_share (child_told (ProcFork left) given) (called_guest guest t (ProcFork left) given)
+answered_guest p guest t call given = called_guest guest t call given
+
 -- The world after an act of a thread. A call in which the thread waits leaves its registers, and a wake is answered as the call is that
 -- its thread waits in. An idle jump moves the clock alone.
 abbrev pub acted : World → Who → Act → World
 acted w who (act.Call call given) = record w {
   state = called_state w.constants w.state who call given;
-  guests = insert w.guests who.pid (called_guest (guest_of w who.pid) who.tid call given);
+  guests = with_child (child_told call given) (child_guest (guest_of w who.pid) who.tid)
+      (insert w.guests who.pid (answered_guest who.pid (guest_of w who.pid) who.tid call given));
 }
 acted w who (act.Wake call given answered) = record w {
   state = woken_state w.constants w.state who call given answered;

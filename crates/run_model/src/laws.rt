@@ -1,7 +1,7 @@
 //! Laws of legal histories. The statements are in `specs/Laws.antt`, and each holds of every launch and history.
 ghost use Rattle.run_model.specs.Laws.{LegalBegins, LegalGoesOn, EachEntryFits, EntryIsOne, LegalIsConfined, WorldIsValid, WorldHasDeadlines, WaitsAreEncoded, WaitsWereCalled, EntryTakesTime, ClockCounts, ClockIsExact, TurnsAreBounded, EntryTakes, EncodedIsPlain, EncodedIsNotBadf};
 ghost use Rattle.run_model.specs.Laws.{HistoryIsShort, EndedIsFinal, StalledIsFinal, EndedOrStalled, EndsOrGoesOn, RunsToItsEnd};
-ghost use Rattle.run_model.specs.OwnLaws.{EntryLeavesOthers, BornIsNew, OthersStay, MadeLater, LeftAlone, AsksStay, LegalHasRegisters, MomentIsEarly, LengthIsBounded};
+ghost use Rattle.run_model.specs.OwnLaws.{EntryLeavesOthers, BornHasParents, BornIsNew, ChildDidNothing, ChildHasThread, OthersStay, MadeLater, UnmadeDoesNothing, LeftAlone, AsksStay, LegalHasRegisters, MomentIsEarly, LengthIsBounded};
 
 /// The empty history is legal, an entry that fits the world of a legal history may follow it, and no other history is
 /// legal: what stands before each entry of a legal history is legal, and the entry fits its world.
@@ -52,11 +52,14 @@ pub fn clock_counts()
     ensures exact { ClockIsExact }
 {}
 
-/// An entry makes a process that did not do it, or ends it, or leaves it as it was; and a process that it makes was not made
-/// before.
+/// An entry makes a process that did not do it, or ends it, or leaves it as it was. A process that it makes was not made before, and has the
+/// memory of the one that did the entry, the registers of the thread that forked, and a sixteenth of the turns. It is live, and
+/// has one thread, which runs.
 pub fn entry_leaves_others()
     ensures left { EntryLeavesOthers }
     ensures born { BornIsNew }
+    ensures parents { BornHasParents }
+    ensures thread { ChildHasThread }
 {}
 
 /// An entry leaves a process that did not do it, that was made before it and that is live after it as it was: its memory,
@@ -68,6 +71,12 @@ pub fn others_stay()
 /// A process that was made, whether it lives or has ended, stays so as a legal history goes on.
 pub fn made_later()
     ensures { MadeLater }
+{}
+
+/// A process that was not made in a legal history did none of its entries, nor did one that the last entry makes.
+pub fn made_before()
+    ensures none { UnmadeDoesNothing }
+    ensures child { ChildDidNothing }
 {}
 
 /// What a process has after the beginning of a legal history it has at its end, if it did no entry in between and is live

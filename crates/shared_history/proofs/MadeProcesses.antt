@@ -5,6 +5,7 @@ use Rattle.abi_types.specs.declared.status.Status.TheVariants.{Live}
 use Rattle.run_types.specs.declared.history.Entry.{Entry}
 use Rattle.run_types.specs.declared.launch.Launch.{Launch}
 use Rattle.kernel_model.specs.State.{State}
+use Rattle.kernel_model.specs.Valid.{IsValid}
 use Rattle.maps.specs.Maps.{get-insert-same}
 use Rattle.run_model.specs.Legal.{Fits}
 use Rattle.run_model.specs.Own.{born, Made}
@@ -19,8 +20,8 @@ first_made launch =
     (subst (λ (S : State). IsSome (get S.statuses 0)) (sym (first_state launch)) (subst IsSome (sym (get-insert-same empty 0 Live)) refl))
 
 -- a process that an act makes was not there before, and is there afterwards
-pub born_is_new : (w : World) (e : Entry) (q : ℕ) → Fits w e → Contains (born e.act) q → Made w q → ⊥
-born_is_new w e q fits there made = (own.born_is_new w e q fits there).0 made
+pub born_is_new : (w : World) (e : Entry) (q : ℕ) → IsValid w.state → Fits w e → Contains (born e.act) q → Made w q → ⊥
+born_is_new w e q valid fits there made = (own.born_is_new w e q valid fits there).0 made
 
-pub born_is_made : (w : World) (e : Entry) (q : ℕ) → Fits w e → Contains (born e.act) q → Made (apply w e) q
-born_is_made w e q fits there = (own.born_is_new w e q fits there).1
+pub born_is_made : (w : World) (e : Entry) (q : ℕ) → IsValid w.state → Fits w e → Contains (born e.act) q → Made (apply w e) q
+born_is_made w e q valid fits there = (own.born_is_new w e q valid fits there).1

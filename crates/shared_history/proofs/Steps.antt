@@ -13,6 +13,8 @@ use Rattle.atomic_table.specs.Table.{keeps}
 use Rattle.atomic_table.proofs.Lists.{at_set}
 use Rattle.run_types.specs.declared.history.Entry.{Entry}
 use Rattle.run_types.specs.declared.launch.Launch.{Launch}
+use Rattle.kernel_model.specs.Valid.{IsValid}
+use Rattle.tree_model.specs.Grants.{MayBegin}
 use Rattle.run_model.specs.Legal.{Fits, Legal}
 use Rattle.run_model.specs.Own.{is_idle, is_own, own, born, Made}
 use Rattle.run_model.specs.World.{World, world}
@@ -24,6 +26,7 @@ use Rattle.shared_history.specs.Rule.{keeper_view, pass_view, spent_view, first_
 use Rattle.shared_history.proofs.Beginnings.{prefix_self, prefix_more}
 use Rattle.shared_history.proofs.Histories.{own_is, own_other}
 use Rattle.run_model.proofs.Own.{made_later}
+use Rattle.run_model.proofs.Worlds.{world_is_valid}
 use Rattle.shared_history.proofs.MadeProcesses.{born_is_new, born_is_made, first_made}
 use Rattle.shared_history.proofs.Owners.{contains_first, contains_later, contains_none, contains_one, owner_for, owner_same, owner_other, owner_for_all, owner_all_there, owner_all_other, owner_all_kept}
 
@@ -78,12 +81,13 @@ first_seats : (launch : Launch) (seat : ℕ) (v : View) → get_elem? (first_vie
 first_seats launch zero v e = subst (Fit launch [] (λ _. 0) 0 0) (some-injective first_view v e) (first_fits launch)
 first_seats launch (suc seat) v e = absurd (some-ne-none v (sym e))
 
-pub begins : (launch : Launch) → IsKept launch (opening (0 ∷ []) [] first_view)
-begins launch = (0, [], (λ _. 0), record { words = refl; legal = legal_none launch; seats = first_seats launch })
+pub begins : (launch : Launch) → MayBegin launch.tree launch.grants → IsKept launch (opening (0 ∷ []) [] first_view)
+begins launch proper = (0, [], (λ _. 0), record { proper = proper; words = refl; legal = legal_none launch; seats = first_seats launch })
 
 -- ---- the keeper appends an entry
 
-module _ (launch : Launch) (log : List Entry) (e : Entry) (legal : Legal launch log) (fits : Fits (world launch log) e) (owner : ℕ → ℕ) (id : ℕ) where
+module _ (launch : Launch) (log : List Entry) (e : Entry) (proper : MayBegin launch.tree launch.grants) (legal : Legal launch log) (fits : Fits (world launch log) e)
+    (owner : ℕ → ℕ) (id : ℕ) where
   abbrev later : List Entry
   later = log ++ e ∷ []
 
@@ -92,6 +96,9 @@ module _ (launch : Launch) (log : List Entry) (e : Entry) (legal : Legal launch 
 
   legal_later : Legal launch later
   legal_later = legal_more launch log e legal fits
+
+  valid : IsValid (world launch log).state
+  valid = world_is_valid launch log proper legal
 
   made_there : (p : ℕ) → Made (world launch log) p → Made (world launch later) p
   made_there p made = made_later launch log (e ∷ []) p legal_later made
@@ -110,7 +117,7 @@ module _ (launch : Launch) (log : List Entry) (e : Entry) (legal : Legal launch 
     holds = λ p there.
         let h = f.holds p there in
         record {
-          owned = owner_all_other owner (born e.act) id p (λ new. born_is_new (world launch log) e p fits new h.made) ∙ h.owned;
+          owned = owner_all_other owner (born e.act) id p (λ new. born_is_new (world launch log) e p valid fits new h.made) ∙ h.owned;
           same = h.same ∙ sym (own_other p log e (not_own mine seat p other h.owned (is_own p e) refl));
           made = made_there p h.made;
         };
@@ -126,7 +133,7 @@ module _ (launch : Launch) (log : List Entry) (e : Entry) (legal : Legal launch 
         (λ new. record {
           owned = owner_all_there owner (born e.act) id p new;
           same = refl;
-          made = subst (λ (w : World). Made w p) (sym (world_more launch log e)) (born_is_made (world launch log) e p fits new);
+          made = subst (λ (w : World). Made w p) (sym (world_more launch log e)) (born_is_made (world launch log) e p valid fits new);
         })
         (λ old. record { owned = owner_all_kept owner (born e.act) id p (f.holds p old).owned; same = refl; made = made_there p (f.holds p old).made })
         (Contains-append_cases (born e.act) held p there);
@@ -149,11 +156,12 @@ appends launch slots id log held seen e covers fits room s kept homes at small =
         log ++ e ∷ [],
         owner_for_all k.0 (born e.act) id,
         record {
+          proper = k.1.proper;
           words = ap (λ ws. slice_set ws 0 ((slice_index ws 0 + 1) % 2 ^ 64)) k.1.words ∙ ap (λ n. n ∷ []) (one_more log e room);
           legal = legal_more launch log e k.1.legal fits;
           seats = fit_set launch (log ++ e ∷ []) (owner_for_all k.0 (born e.act) id) id s.views id (keeper_view (log ++ e ∷ []) (born e.act ++ held) (log ++ e ∷ []))
-              (λ j u other there. other_fits launch log e k.1.legal fits k.0 id (λ idle. (mine.holds e.pid (covers idle)).owned) j u other (k.1.seats j u there))
-              (keeper_fits launch log e k.1.legal fits k.0 id held seen mine);
+              (λ j u other there. other_fits launch log e k.1.proper k.1.legal fits k.0 id (λ idle. (mine.holds e.pid (covers idle)).owned) j u other (k.1.seats j u there))
+              (keeper_fits launch log e k.1.proper k.1.legal fits k.0 id held seen mine);
         },
       ),
       refl,
@@ -174,6 +182,7 @@ compares launch slots id log held seen s kept homes at small =
         log,
         k.0,
         record {
+          proper = k.1.proper;
           words = ap (λ ws. slice_set ws 0 (slice_index ws 0)) k.1.words;
           legal = k.1.legal;
           seats = fit_set launch log k.0 id s.views id (keeper_view log held log) (λ j u other there. k.1.seats j u there) (record {
@@ -234,6 +243,7 @@ takes_in launch id log held seen other p told s kept at apart there =
       log,
       owner_for k.0 p id,
       record {
+        proper = k.1.proper;
         words = k.1.words;
         legal = k.1.legal;
         seats = fit_set launch log (owner_for k.0 p id) id (set s.views id both) other spent_view
@@ -263,6 +273,7 @@ gives launch id log p held none s kept at =
       log,
       owner_for k.0 p n,
       record {
+        proper = k.1.proper;
         words = k.1.words;
         legal = k.1.legal;
         seats = λ j u e. ⊎_elim

@@ -6,6 +6,7 @@ use lib.ListN.{get_elem?}
 use Rattle.atomic_table.specs.Table.{State as TableState, Me}
 use Rattle.run_types.specs.declared.history.Entry.{Entry}
 use Rattle.run_types.specs.declared.launch.Launch.{Launch}
+use Rattle.tree_model.specs.Grants.{MayBegin}
 use Rattle.run_model.specs.Legal.{Legal}
 use Rattle.run_model.specs.Own.{is_idle, own, born, Made}
 use Rattle.run_model.specs.World.{world}
@@ -43,9 +44,10 @@ pub record Fit (launch : Launch) (log : List Entry) (owner : ℕ → ℕ) (keepe
   pub beginning : IsPrefix v.seen log
   pub holds : (p : ℕ) → Contains v.held p → Holds launch log owner seat v.seen p
 
--- The word is the number of entries of the history, which is legal; one seat at most is the keeper's and knows the history;
--- and owner says of each process that some seat stands for which seat that is.
+-- The launch may begin with its tree and its grants. The word is the number of entries of the history, which is legal; one seat at most
+-- is the keeper's and knows the history; and owner says of each process that some seat stands for which seat that is.
 pub record Stands (launch : Launch) (keeper : ℕ) (log : List Entry) (owner : ℕ → ℕ) (s : TableState Entry View) : Type 0 where
+  pub proper : MayBegin launch.tree launch.grants
   pub words : s.words ≡ length log ∷ []
   pub legal : Legal launch log
   pub seats : (seat : ℕ) (v : View) → get_elem? s.views seat ≡ some v → Fit launch log owner keeper seat v

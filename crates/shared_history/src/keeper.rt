@@ -4,7 +4,7 @@ ghost use Rattle.std.specs.Prelude.{◌≡◌, ℕ, ◌^◌, ◌<◌, [], ◌∷
 ghost use Rattle.run_model.specs.Legal.{Fits};
 ghost use Rattle.run_model.specs.Own.{born};
 ghost use Rattle.run_model.specs.World.{world};
-ghost use Rattle.shared_history.specs.Entries.{answered_call};
+ghost use Rattle.shared_history.specs.Entries.{act_of, answered_call};
 ghost use Rattle.shared_history.specs.Keeper.{IsAtRest};
 ghost use Rattle.shared_history.specs.Passes.{IsSeen, Later};
 ghost use Rattle.shared_history.specs.Rule.{first_view, Covers, IsAppended, tail_of};
@@ -113,7 +113,7 @@ impl<J: Naming> Keeper<J> {
     }
 
     /// Appends the entry of a call of a thread whose process the keeper holds, or of the wake of a thread that waited in the call,
-    /// where something was given to it. The entry isn't made: proofs alone see it.
+    /// where something was given to it. The entry isn't made: proofs alone see it. The keeper then holds a child that the call made too.
     pub fn append_call(
         &mut self,
         passes: &Passes<J>,
@@ -125,7 +125,7 @@ impl<J: Naming> Keeper<J> {
         requires covers { Contains self.old.held head.now.pid }
         requires fits { Fits (world J.launch self.old.log) (answered_call head.now call.now given answer.now) }
         requires room { length self.old.log < 2 ^ 63 }
-        ensures { self.new ≡ record { log = self.old.log ++ answered_call head.now call.now given answer.now ∷ []; held = self.old.held } }
+        ensures { self.new ≡ record { log = self.old.log ++ answered_call head.now call.now given answer.now ∷ []; held = born (act_of call.now given answer.now) ++ self.old.held } }
     {
         append_call_as::<Brand, J>(passes, &mut self.seat, head, call, given, answer);
     }

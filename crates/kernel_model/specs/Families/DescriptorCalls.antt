@@ -127,7 +127,7 @@ type_number (Directory node flags) = directory
 type_number (End (Some reads) (Some writes) flags) = stream_socket
 type_number (End reads writes flags) = fifo
 type_number (Terminal which flags) = character_device
-type_number (Process p) = process
+type_number (Process p object) = process
 
 -- an open's flags; a process has none
 abbrev pub flags_of : OpenKind → ℕ
@@ -135,7 +135,7 @@ flags_of (File node offset flags) = flags
 flags_of (Directory node flags) = flags
 flags_of (End reads writes flags) = flags
 flags_of (Terminal which flags) = flags
-flags_of (Process p) = 0
+flags_of (Process p object) = 0
 
 -- what a descriptor of the open is and may do
 abbrev pub stat_of : Descriptor → OpenKind → FdStat
@@ -179,7 +179,7 @@ with_flags (File node offset flags) new = File node offset new
 with_flags (Directory node flags) new = Directory node new
 with_flags (End reads writes flags) new = End reads writes new
 with_flags (Terminal which flags) new = Terminal which new
-with_flags (Process p) new = Process p
+with_flags (Process p object) new = Process p object
 
 -- the descriptor with those of its rights that are asked
 abbrev pub lowered_to : Descriptor → FdStat → Descriptor

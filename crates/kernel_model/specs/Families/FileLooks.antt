@@ -76,7 +76,7 @@ report_in t n = report_node n (get t.nodes n)
 -- ---- file_stat_fget
 
 -- The stream that is number k of the standard ones is object k + 1 of the launch. An end has the number of the channel that it
--- reads, or else of that which it writes. One of a process has the process's number; no call makes one yet.
+-- reads, or else of that which it writes. One of a process has the number of the process's object.
 abbrev pub report_open : Tree → Option OpenKind → Outcome
 report_open t None = replies (refused Badf)
 report_open t (Some (File node offset flags)) = report_in t node
@@ -85,7 +85,7 @@ report_open t (Some (End (Some reads) writes flags)) = reported (object_stat rea
 report_open t (Some (End None (Some writes) flags)) = reported (object_stat writes (type_number (End None (Some writes) flags)))
 report_open t (Some (End None None flags)) = replies (refused Badf)
 report_open t (Some (Terminal which flags)) = reported (object_stat (launch_object (which + 1)) (type_number (Terminal which flags)))
-report_open t (Some (Process p)) = reported (object_stat p (type_number (Process p)))
+report_open t (Some (Process p object)) = reported (object_stat object (type_number (Process p object)))
 
 -- the meaning of a call that looks at an open so
 abbrev pub looking : (Tree → Option OpenKind → Outcome) → FileMeaning

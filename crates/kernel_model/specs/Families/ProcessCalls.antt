@@ -1,20 +1,22 @@
 -- Calls on processes and threads.
 use Rattle.std.specs.Prelude.{ℕ, ◌-◌, ◌^◌, ◌==◌, ◌&&◌, nat_lt, not, Bool, true, false, List, [], ◌∷◌, Option, None, Some, is_some}
 use Rattle.std.specs.FinMap.{empty, get, len, remove}
-use Rattle.abi_base.specs.declared.errno.Errno.TheVariants.{Again, Perm}
+use Rattle.std.specs.List.{find}
+use Rattle.abi_base.specs.declared.errno.Errno.TheVariants.{Again, Inval, Notsup, Perm}
+use Rattle.abi_base.specs.declared.signal.Signal.{Signal}
+use Rattle.abi_base.specs.declared.signal.Signal.TheVariants.{Abrt, Alrm, Bus, Chld, Cont, Fpe, Hup, Ill, Int, Kill, Pipe, Quit, Segv, Stop, Sys, Term, Trap, Tstp, Ttin, Ttou, Urg, Usr1, Usr2, Vtalrm, Xcpu, Xfsz}
+use Rattle.abi_base.specs.Signal.{number_of}
 use Rattle.abi_types.specs.declared.reply.Answer.TheVariants as answer
 use Rattle.abi_types.specs.declared.reply.Reply.{Reply}
 use Rattle.abi_types.specs.declared.status.Status.{Status}
-use Rattle.abi_types.specs.declared.status.Status.TheVariants.{Exit}
-use Rattle.abi_base.specs.declared.rights.TheConstants.Rights.{PROC_EXEC}
+use Rattle.abi_types.specs.declared.status.Status.TheVariants.{Exit, Killed}
 use Rattle.abi_types.specs.declared.reply.WordWrites.TheVariants.{One}
 use Rattle.kernel_model.specs.Families.LockWords.{unlocked}
-use Rattle.kernel_model.specs.Meaning.{Meaning, answering, unbuilt_listing, unbuilt_naming}
+use Rattle.kernel_model.specs.Meaning.{Meaning, answering}
 use Rattle.kernel_model.specs.Outcome.{Outcome, replies}
 use Rattle.kernel_model.specs.OwnChanges.{ends_one, makes_one, next_thread, with_next_thread, without_thread}
 pub use Rattle.kernel_model.specs.OwnChanges.{ended_process}
 use Rattle.kernel_model.specs.Reply.{refused, success}
-use Rattle.kernel_model.specs.Rows.{base_row}
 use Rattle.kernel_model.specs.State.{ProcessState, Update, set_table, set_process, set_status}
 
 -- the end of a process that has this of its own: its status, and no descriptor and no thread left
@@ -28,15 +30,48 @@ exit_of p own code = record { answer = answer.Reply (success 0 0); updates = end
 abbrev pub proc_exit : ℕ → Meaning
 proc_exit code = record (answering [] (success 0 0)) { effect = λ constants v who table. exit_of who.pid (v.process who.pid) code }
 
--- the program, and the descriptors that the process has afterwards
-abbrev pub proc_exec : ℕ → List ℕ → Meaning
-proc_exec fd fds = unbuilt_listing (base_row fd PROC_EXEC) fds
+-- ---- proc_raise
 
-abbrev pub proc_fork : Meaning
-proc_fork = unbuilt_naming []
+-- what a signal does to the process that raises it: it would stop it, which no process can be; it leaves it; or the process ends by it
+pub data Raised : Type 0 where
+  stops : Raised
+  passes : Raised
+  ends : Raised
 
-abbrev pub proc_raise : Meaning
-proc_raise = unbuilt_naming []
+abbrev pub raised_by : Signal → Raised
+raised_by Stop = stops
+raised_by Tstp = stops
+raised_by Ttin = stops
+raised_by Ttou = stops
+raised_by Chld = passes
+raised_by Cont = passes
+raised_by Urg = passes
+raised_by signal = ends
+
+-- all signals, and the one with a number
+abbrev pub signals : List Signal
+signals =
+    Abrt ∷ Alrm ∷ Bus ∷ Chld ∷ Cont ∷ Fpe ∷ Hup ∷ Ill ∷ Int ∷ Kill ∷ Pipe ∷ Quit ∷ Segv ∷ Stop ∷ Sys ∷ Term ∷ Trap ∷ Tstp ∷ Ttin ∷ Ttou ∷ Urg
+    ∷ Usr1 ∷ Usr2 ∷ Vtalrm ∷ Xcpu ∷ Xfsz ∷ []
+
+abbrev pub signal_of : ℕ → Option Signal
+signal_of number = find (λ signal. number_of signal == number) signals
+
+abbrev pub raise_as : Raised → ℕ → Option ProcessState → Signal → Outcome
+raise_as stops p own signal = replies (refused Notsup)
+raise_as passes p own signal = replies (success 0 0)
+raise_as ends p own signal = record { answer = answer.Reply (success 0 0); updates = end_updates p own (Killed signal) }
+
+abbrev pub raise_of : ℕ → Option ProcessState → Option Signal → Outcome
+raise_of p own None = replies (refused Inval)
+raise_of p own (Some signal) = raise_as (raised_by signal) p own signal
+
+-- The calling process gets the signal. A number that is no signal's, and a signal that would stop it, are refused by what the call's
+-- registers show, and here again.
+abbrev pub proc_raise : ℕ → Meaning
+proc_raise number = record (answering (Inval ∷ Notsup ∷ []) (success 0 0)) {
+  effect = λ constants v who table. raise_of who.pid (v.process who.pid) (signal_of number);
+}
 
 -- ---- threads
 

@@ -1,6 +1,6 @@
-//! What those calls name and need that the command answers by NOSYS before the kernel sees them, and a poll of descriptors, and their
-//! refusals for lack of that: with no descriptor at all, with just what they need, and with each needed right taken away in turn. The same of the
-//! other calls is shown by scripts of calls (docs/GATE.md).
+//! What those calls name and need that the command answers by NOSYS before the kernel sees them, a poll of descriptors, and proc_exec,
+//! proc_fork and proc_raise, and their refusals for lack of that: with no descriptor at all, with just what they need, and with each needed
+//! right taken away in turn. The same of the other calls is shown by scripts of calls (docs/GATE.md).
 use crate::kernel::stdout_kernel::{answer_to, bare_kernel};
 use abi_types::{
     Answer, Bytes, Call, CallNumber, Denial, Descriptor, Errno, FdList, ObjId, OpenType, Reply,
@@ -14,12 +14,14 @@ use std::test::Fail;
 // A row of needs: a descriptor, and its base rights.
 type Row = (u32, &'static [Rights]);
 
-// A call by its place in `call_at`, the descriptors that must be there, and the rights that it needs of them.
+// A call by its place in `call_at`, the descriptors that must be there, the rights that it needs of them, and what a process without
+// descriptors is answered.
 struct Case {
     name: &'static str,
     number: u64,
     named: &'static [u32],
     rows: &'static [Row],
+    bare: Errno,
 }
 
 // How many descriptors the tests' tables have.
@@ -31,6 +33,7 @@ const CASES: &[Case] = &[
         number: 2,
         named: &[],
         rows: &[],
+        bare: Errno::Nosys,
     },
     // its arguments are always refused before the kernel sees it
     Case {
@@ -38,12 +41,14 @@ const CASES: &[Case] = &[
         number: 4,
         named: &[],
         rows: &[],
+        bare: Errno::Nosys,
     },
     Case {
         name: "lock_unlock",
         number: 31,
         named: &[],
         rows: &[],
+        bare: Errno::Nosys,
     },
     Case {
         name: "poll",
@@ -54,24 +59,28 @@ const CASES: &[Case] = &[
             (1, &[Rights::POLL_FD_READWRITE]),
             (2, &[Rights::POLL_PROC_TERMINATE]),
         ],
+        bare: Errno::Badf,
     },
     Case {
         name: "proc_exec",
         number: 38,
         named: &[0, 1, 2],
         rows: &[(0, &[Rights::PROC_EXEC])],
+        bare: Errno::Badf,
     },
     Case {
         name: "proc_fork",
         number: 40,
         named: &[],
         rows: &[],
+        bare: Errno::Success,
     },
     Case {
         name: "proc_raise",
         number: 41,
         named: &[],
         rows: &[],
+        bare: Errno::Success,
     },
 ];
 
@@ -143,6 +152,7 @@ fn calls_from_3(alloc: Global, place: usize) -> Result<Option<Call>, AllocError>
             fds: listed(alloc)?,
         },
         5 => Call::ProcFork { left: 100 },
+        // CHLD, which ends no process
         6 => Call::ProcRaise { signal: 4 },
         _ => return Ok(None),
     }))
@@ -295,15 +305,6 @@ fn reported_of_descriptors(
     Ok(list)
 }
 
-// What a process without descriptors is answered.
-fn bare_wanted(case: &Case) -> Errno {
-    if case.named.is_empty() {
-        Errno::Nosys
-    } else {
-        Errno::Badf
-    }
-}
-
 // Whether a case's call has its number, and is refused by its rights as it must be.
 fn needs_its_rights(alloc: Global, case: &Case, call: &Call) -> Result<bool, AllocError> {
     let got = reported_of_rights(alloc, case.rows, call)?;
@@ -326,7 +327,7 @@ fn is_refused_as_wanted(alloc: Global, place: usize, case: &Case) -> Result<bool
     Ok(
         needs_its_rights(alloc, case, &call)?
             && needs_its_descriptors(alloc, case, &call)?
-            && bare_answer(alloc, &call)? == Some(bare_wanted(case)),
+            && bare_answer(alloc, &call)? == Some(case.bare),
     )
 }
 
@@ -339,7 +340,7 @@ fn needs(rt: HostRuntime) -> Result<(), Fail> {
     Ok(())
 }
 
-// The rights of the type of which no program has a descriptor yet, by their bits.
+// The rights of the type of which no program starts with a descriptor, by their bits.
 const TYPES: &[(OpenType, &[u32])] = &[(OpenType::Process, &[19, 30])];
 
 // The set of the rights with these bits.

@@ -576,11 +576,12 @@ fn page_limit(rt: HostRuntime) -> Result<(), Fail> {
     Ok(())
 }
 
-// Operations before a memory is copied, those that change it then, and those on the copy.
+// Operations before a memory is copied for a child, those that change it then, those on the copy, and those on it behind them.
 struct Copied {
     before: Operations,
     then: Operations,
     copy: Operations,
+    behind: Operations,
 }
 
 const COPIES: &[Copied] = &[
@@ -599,6 +600,7 @@ const COPIES: &[Copied] = &[
             (Operation::Rights(0x3f_ffff_f000), Ok(1)),
             (Operation::Len, Ok(3)),
         ],
+        behind: &[(Operation::Rights(0x21000), Ok(1)), (Operation::Len, Ok(2))],
     },
     Copied {
         before: &[
@@ -648,22 +650,51 @@ const COPIES: &[Copied] = &[
             ),
             (Operation::Gap(1), Ok(0x20_0000_2000)),
         ],
+        behind: &[],
+    },
+    // What either of them stores isn't there for the other.
+    Copied {
+        before: &[
+            (Operation::Map(0x10000, 3, READ_WRITE), DONE),
+            (Operation::Store(0x10000, 8, 1), DONE),
+            (Operation::Store(0x11000, 8, 2), DONE),
+            (Operation::Store(0x12000, 8, 3), DONE),
+        ],
+        then: &[
+            (Operation::Store(0x10000, 8, 4), DONE),
+            (Operation::Load(0x10000, 8), Ok(4)),
+        ],
+        copy: &[
+            (Operation::Load(0x10000, 8), Ok(1)),
+            (Operation::Store(0x10000, 8, 5), DONE),
+            (Operation::Store(0x11000, 8, 6), DONE),
+            (Operation::Load(0x10000, 8), Ok(5)),
+            (Operation::Load(0x11000, 8), Ok(6)),
+            (Operation::Load(0x12000, 8), Ok(3)),
+        ],
+        behind: &[
+            (Operation::Load(0x10000, 8), Ok(4)),
+            (Operation::Load(0x11000, 8), Ok(2)),
+            (Operation::Load(0x12000, 8), Ok(3)),
+        ],
     },
 ];
 
 // The first row of each list that gives another answer.
-fn copy_and_change(alloc: Global, row: &Copied) -> Result<[Option<usize>; 3], AllocError> {
+fn copy_and_change(alloc: Global, row: &Copied) -> Result<[Option<usize>; 4], AllocError> {
     let mut memory = GuestMemory::new(alloc);
     let before = first_other(&mut memory, alloc, row.before);
-    let mut copy = memory.copy(alloc)?;
+    let mut copy = memory.fork(alloc)?;
     let then = first_other(&mut memory, alloc, row.then);
-    Ok([before, then, first_other(&mut copy, alloc, row.copy)])
+    let copied = first_other(&mut copy, alloc, row.copy);
+    let behind = first_other(&mut memory, alloc, row.behind);
+    Ok([before, then, copied, behind])
 }
 
 #[test]
 fn copies_are_apart(rt: HostRuntime) -> Result<(), Fail> {
     for row in COPIES {
-        assert_eq!(rt; copy_and_change(rt.alloc(), row)?, [None; 3]);
+        assert_eq!(rt; copy_and_change(rt.alloc(), row)?, [None; 4]);
     }
     Ok(())
 }

@@ -8,7 +8,7 @@ pub loop-index-preserved : goal.loop-index-preserved
 loop-index-preserved c =
     subst (AreMapped c.args.pages.now c.args.first (c.loop-index.index + 1) c.args.prot)
     (sym (c.in_ok-insert.ensures.ok ∙ ap
-    (insert c.loop-index.pages (c.args.first + c.loop-index.index)) c.in_ok-new.ensures))
+    (insert c.loop-index.pages (c.args.first + c.loop-index.index)) c.new.ensures))
     (mapped_more c.args.pages.now c.loop-index.pages c.args.first c.loop-index.index c.args.prot
     c.loop-index.invariant)
 

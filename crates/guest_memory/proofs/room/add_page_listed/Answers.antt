@@ -16,14 +16,14 @@ returns-in_err-insert-clause-added c =
 pub returns-clause-page : goal.returns-clause-page
 returns-clause-page c =
     ap (λ (m : Pages). get m c.args.number) c.in_ok-insert.ensures.ok
-    ∙ get-insert-same c.args.pages.now c.args.number c.in_ok-page.page
-    ∙ ap Some c.in_ok-page.ensures
+    ∙ get-insert-same c.args.pages.now c.args.number c.new-page.result
+    ∙ ap Some c.new-page.ensures
     ∙ sym (ap (λ (o : Option Page). Some (or_added o)) (is_none _ c.if-contains.ensures))
 
 pub returns-clause-others : goal.returns-clause-others
 returns-clause-others c q apart =
     ap (λ (m : Pages). get m q) c.in_ok-insert.ensures.ok
-    ∙ get-insert-other c.args.pages.now c.args.number c.in_ok-page.page q apart
+    ∙ get-insert-other c.args.pages.now c.args.number c.new-page.result q apart
 
 pub returns-clause-added : goal.returns-clause-added
 returns-clause-added c =

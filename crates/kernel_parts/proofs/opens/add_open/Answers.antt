@@ -1,10 +1,11 @@
-use Rattle.std.proofs.Common.{◌≡◌, is_some, ap, ◌∙◌, arith}
+use Rattle.std.proofs.Common.{◌≡◌, IsSome, is_some, sym, ap, subst, ◌∙◌, arith}
 use Rattle.std.specs.FinMap.{get, remove}
 use Rattle.maps.specs.Maps.{number, get-insert-same, remove-inserted, total-insert_new}
 use Rattle.object_store.specs.Objects.{Held}
 use Rattle.kernel_model.specs.Release.{count_in, names_open}
 use Rattle.kernel_model.specs.State.{Table}
 use Rattle.kernel_parts.proofs.Counts.{number-hold, zero_added}
+use Rattle.kernel_parts.proofs.Holding.{count_stays}
 use Rattle.kernel_parts.proofs.opens.add_open.Goals as goal
 
 pub returns-in-Err-clause-same_table : goal.returns-in-Err-clause-same_table
@@ -30,3 +31,10 @@ returns-clause-counts c = λ o.
     let added = ap (λ (h : Held). number (get h.counts o)) c.in_default.ensures.ok ∙ zero_added c.args.objects.now.counts d.id o c.requires.unheld in
     let grown = ap (count_in o) c.in_ok-insert_at.ensures.ok ∙ total-insert_new (names_open o) c.args.table.now c.args.fd d c.requires.free in
     omega (arith, held, added, grown)
+
+pub returns-clause-there : goal.returns-clause-there
+returns-clause-there c = λ o some.
+    let d = c.args.descriptor in
+    let added : IsSome (get c.add.new.self.counts o) =
+    subst (λ (h : Held). IsSome (get h.counts o)) (sym c.in_default.ensures.ok) (count_stays c.args.objects.now.counts d.id 0 o some) in
+    subst (λ (h : Held). IsSome (get h.counts o)) (sym c.hold.ensures) (count_stays c.add.new.self.counts d.id _ o added)

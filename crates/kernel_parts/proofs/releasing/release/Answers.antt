@@ -3,7 +3,7 @@ use Rattle.std.specs.FinMap.{get, len}
 use Rattle.maps.specs.Maps.{number}
 use Rattle.object_store.specs.Objects.{Held}
 use Rattle.kernel_parts.specs.Released.{state_by}
-use Rattle.kernel_parts.proofs.Releases.{after_end, after_node, after_none, after_process, channels_covered, fewer, going_starts, in_the_end, of_no_other, tables_covered}
+use Rattle.kernel_parts.proofs.Releases.{IsGoing, after_end, after_node, after_none, after_process, channels_covered, fewer, going_starts, in_the_end, of_no_other, tables_covered}
 use Rattle.kernel_parts.proofs.releasing.release.Goals as goal
 
 pub loop-kind-init : goal.loop-kind-init
@@ -32,10 +32,12 @@ loop-kind-smaller-in-Process c =
 
 pub loop-kind-preserved-in-Process : goal.loop-kind-preserved-in-Process
 loop-kind-preserved-in-Process c =
-    after_process (state_by c.args.tables.now c.args.processes.now c.args.statuses.now c.args.objects.now.kinds c.args.channels.now c.args.tree.now) c.args.tree.now
+    subst (λ channels. IsGoing (state_by c.args.tables.now c.args.processes.now c.args.statuses.now c.args.objects.now.kinds c.args.channels.now c.args.tree.now) c.args.tree.now
+    c.kill.new.tables c.kill.new.processes c.kill.new.statuses channels c.kill.new.objects c.loop-kind.tree) (sym c.kill.ensures.channels)
+    (after_process (state_by c.args.tables.now c.args.processes.now c.args.statuses.now c.args.objects.now.kinds c.args.channels.now c.args.tree.now) c.args.tree.now
     c.loop-kind.tree c.loop-kind.tables c.loop-kind.processes c.loop-kind.statuses c.loop-kind.channels c.loop-kind.objects c.pop_unheld.new.self
-    c.in-Some.field-0-0 c.in-Some.kind c.in-Some.ensures.unheld c.in-Some.ensures.kind c.in-Some.ensures.new c.loop-kind.invariant c.in-Process.pid c.kill.new.tables c.kill.new.processes
-    c.kill.new.statuses c.kill.new.objects c.in-Process.is c.kill.ensures.kinds c.kill.ensures.counts c.kill.ensures.parts
+    c.in-Some.field-0-0 c.in-Some.kind c.in-Some.ensures.unheld c.in-Some.ensures.kind c.in-Some.ensures.new c.loop-kind.invariant c.in-Process.pid _ c.kill.new.tables c.kill.new.processes
+    c.kill.new.statuses c.kill.new.objects c.in-Process.is c.kill.ensures.kinds c.kill.ensures.counts c.kill.ensures.parts)
 
 pub leave-requires-clause-covered : goal.leave-requires-clause-covered
 leave-requires-clause-covered c =

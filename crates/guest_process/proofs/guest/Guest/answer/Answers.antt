@@ -2,7 +2,7 @@ use Rattle.std.proofs.Common.{◌≡◌, ℕ, Option, Some, None, sym, ap, subst
 use Rattle.std.specs.Ordering.{nat_cmp}
 use Rattle.std.specs.FinMap.{FinMap, get, insert}
 use Rattle.abi_base.specs.Registers.{Registers}
-use Rattle.call_codec.specs.Arguments.{args_of}
+use Rattle.call_codec.specs.Arguments.{Encodes}
 use Rattle.call_codec.specs.Put.{answered_memory, answered_of}
 use Rattle.guest_memory.specs.Page.{Pages}
 use Rattle.guest_memory.specs.Room.{without_each}
@@ -63,10 +63,10 @@ invariant_of-self c =
     let m : Pages = c.self.inside.memory in
     let room = c.args.room in
     let call = c.args.call.now in
-    let encoded = subst (λ (guest : Guest). call ≡ args_of (without_room room guest).memory (registers_of (without_room room guest) c.args.tid)) (sym c.self.view_is)
+    let encoded = subst (λ (guest : Guest). Encodes (without_room room guest).memory (registers_of (without_room room guest) c.args.tid) call) (sym c.self.view_is)
     c.requires.encoded in
     let there = subst (λ (guest : Guest). HasRoomFor call room guest) (sym c.self.view_is) c.requires.room in
     c.forget_where.ensures c.self.inside.memory c.put_answer.new.memory c.self.invariant
     (λ same. subst (KeepsCode m) (sym c.put_answer.ensures.memory)
     (c.may_change_code-may_change.ensures same room.pages there.pages
-    (subst (λ (r : Registers). call ≡ args_of (without_each room.pages m) r) (own_found c) encoded)))
+    (subst (λ (r : Registers). Encodes (without_each room.pages m) r call) (own_found c) encoded)))

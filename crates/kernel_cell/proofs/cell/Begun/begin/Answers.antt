@@ -5,7 +5,7 @@ use Rattle.shared_history.proofs.Steps.{begins}
 use Rattle.kernel_cell.proofs.cell.Begun.begin.Goals as goal
 
 pub of_words-requires : goal.of_words-requires
-of_words-requires c = begins c.args.launch
+of_words-requires c = begins c.args.launch c.requires.begins
 
 pub invariant_of-result : goal.invariant_of-result
 invariant_of-result c =

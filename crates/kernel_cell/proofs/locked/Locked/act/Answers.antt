@@ -15,15 +15,15 @@ pub call-acted-requires-clause-asks : goal.call-acted-requires-clause-asks
 call-acted-requires-clause-asks g c =
     let pass = c.pass.inside in
     let log = c.self.inside.recorded.keeper.log in
-    asks_call_now g.J.Naming.launch pass.pid c.args.tid (seen_of pass.badge.views) c.args.turns log c.take_in.new.self.log (ap (λ k. k.log) c.take_in.ensures.keeper)
+    asks_call_now g.J.Naming.launch c.self.invariant.bounded.begins pass.pid c.args.tid (seen_of pass.badge.views) c.args.turns log c.take_in.new.self.log (ap (λ k. k.log) c.take_in.ensures.keeper)
     c.pass.invariant.seen c.self.invariant.legal (later_of c.lent.result pass.pid (seen_of pass.badge.views) log c.lent.ensures c.take_in.ensures.later)
-    c.args.pass.now c.args.guest.now c.args.call c.pass.view_is c.requires
+    c.args.pass.now c.args.guest.now c.args.call c.pass.view_is c.requires.asks
 
 pub hand_out-requires-clause-seen : goal.hand_out-requires-clause-seen
 hand_out-requires-clause-seen g c =
     let pass = c.pass.inside in
     let log = c.self.inside.recorded.keeper.log in
-    acted_is_seen g.J.Naming.launch pass.pid c.args.tid (seen_of pass.badge.views) c.args.turns log c.take_in.new.self.log (ap (λ k. k.log) c.take_in.ensures.keeper)
+    acted_is_seen g.J.Naming.launch c.self.invariant.bounded.begins pass.pid c.args.tid (seen_of pass.badge.views) c.args.turns log c.take_in.new.self.log (ap (λ k. k.log) c.take_in.ensures.keeper)
     c.pass.invariant.seen c.self.invariant.legal (later_of c.lent.result pass.pid (seen_of pass.badge.views) log c.lent.ensures c.take_in.ensures.later)
     c.args.call c.call-acted.new.guest c.call-acted.new.self.keeper.log c.call-acted.result c.call-acted.ensures.acted
 
@@ -37,7 +37,7 @@ pub returns-clause-pass : goal.returns-clause-pass
 returns-clause-pass g c =
     let pass = c.pass.inside in
     let log = c.self.inside.recorded.keeper.log in
-    pass_after_call g.J.Naming.launch pass.pid c.args.tid (seen_of pass.badge.views) c.args.turns log c.take_in.new.self.log (ap (λ k. k.log) c.take_in.ensures.keeper)
+    pass_after_call g.J.Naming.launch c.self.invariant.bounded.begins pass.pid c.args.tid (seen_of pass.badge.views) c.args.turns log c.take_in.new.self.log (ap (λ k. k.log) c.take_in.ensures.keeper)
     c.pass.invariant.seen c.self.invariant.legal (later_of c.lent.result pass.pid (seen_of pass.badge.views) log c.lent.ensures c.take_in.ensures.later)
     c.args.call c.call-acted.new.guest c.call-acted.new.self.keeper.log c.call-acted.result c.call-acted.ensures.acted
     c.args.pass.now (record { pid = c.drop.inside.pid; seen = seen_of c.drop.inside.badge.views })

@@ -15,7 +15,7 @@ pub end-stopped-requires-clause-asks : goal.end-stopped-requires-clause-asks
 end-stopped-requires-clause-asks g c =
     let pass = c.pass.inside in
     let log = c.self.inside.recorded.keeper.log in
-    asks_end_now g.J.Naming.launch pass.pid c.args.tid (seen_of pass.badge.views) c.args.turns log c.take_in.new.self.log (ap (λ k. k.log) c.take_in.ensures.keeper)
+    asks_end_now g.J.Naming.launch c.self.invariant.bounded.begins pass.pid c.args.tid (seen_of pass.badge.views) c.args.turns log c.take_in.new.self.log (ap (λ k. k.log) c.take_in.ensures.keeper)
     c.pass.invariant.seen c.self.invariant.legal (later_of c.lent.result pass.pid (seen_of pass.badge.views) log c.lent.ensures c.take_in.ensures.later)
     c.args.pass.now c.args.how c.pass.view_is c.requires
 
@@ -23,7 +23,7 @@ pub hand_out-requires-clause-seen : goal.hand_out-requires-clause-seen
 hand_out-requires-clause-seen g c =
     let pass = c.pass.inside in
     let log = c.self.inside.recorded.keeper.log in
-    stopped_is_seen g.J.Naming.launch pass.pid c.args.tid (seen_of pass.badge.views) c.args.turns log c.take_in.new.self.log (ap (λ k. k.log) c.take_in.ensures.keeper)
+    stopped_is_seen g.J.Naming.launch c.self.invariant.bounded.begins pass.pid c.args.tid (seen_of pass.badge.views) c.args.turns log c.take_in.new.self.log (ap (λ k. k.log) c.take_in.ensures.keeper)
     c.pass.invariant.seen c.self.invariant.legal (later_of c.lent.result pass.pid (seen_of pass.badge.views) log c.lent.ensures c.take_in.ensures.later)
     c.args.how c.end-stopped.new.self.keeper.log c.end-stopped.result c.end-stopped.ensures.stopped
 
@@ -37,7 +37,7 @@ pub returns-clause-pass : goal.returns-clause-pass
 returns-clause-pass g c =
     let pass = c.pass.inside in
     let log = c.self.inside.recorded.keeper.log in
-    pass_after_end g.J.Naming.launch pass.pid c.args.tid (seen_of pass.badge.views) c.args.turns log c.take_in.new.self.log (ap (λ k. k.log) c.take_in.ensures.keeper)
+    pass_after_end g.J.Naming.launch c.self.invariant.bounded.begins pass.pid c.args.tid (seen_of pass.badge.views) c.args.turns log c.take_in.new.self.log (ap (λ k. k.log) c.take_in.ensures.keeper)
     c.pass.invariant.seen c.self.invariant.legal (later_of c.lent.result pass.pid (seen_of pass.badge.views) log c.lent.ensures c.take_in.ensures.later)
     c.args.how c.end-stopped.new.self.keeper.log c.end-stopped.result c.end-stopped.ensures.stopped
     c.args.pass.now (record { pid = c.drop.inside.pid; seen = seen_of c.drop.inside.badge.views })

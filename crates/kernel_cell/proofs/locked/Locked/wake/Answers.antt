@@ -15,7 +15,7 @@ pub wake-woken-requires-clause-asks : goal.wake-woken-requires-clause-asks
 wake-woken-requires-clause-asks g c =
     let pass = c.pass.inside in
     let log = c.self.inside.recorded.keeper.log in
-    asks_wake_now g.J.Naming.launch pass.pid c.args.tid (seen_of pass.badge.views) c.args.turns.now log c.take_in.new.self.log (ap (λ k. k.log) c.take_in.ensures.keeper)
+    asks_wake_now g.J.Naming.launch c.self.invariant.bounded.begins pass.pid c.args.tid (seen_of pass.badge.views) c.args.turns.now log c.take_in.new.self.log (ap (λ k. k.log) c.take_in.ensures.keeper)
     c.pass.invariant.seen c.self.invariant.legal (later_of c.lent.result pass.pid (seen_of pass.badge.views) log c.lent.ensures c.take_in.ensures.later)
     c.args.pass.now c.args.guest.now c.pass.view_is c.requires
 
@@ -23,7 +23,7 @@ pub hand_out-requires-clause-seen : goal.hand_out-requires-clause-seen
 hand_out-requires-clause-seen g c =
     let pass = c.pass.inside in
     let log = c.self.inside.recorded.keeper.log in
-    woken_is_seen g.J.Naming.launch pass.pid c.args.tid (seen_of pass.badge.views) c.args.turns.now log c.take_in.new.self.log (ap (λ k. k.log) c.take_in.ensures.keeper)
+    woken_is_seen g.J.Naming.launch c.self.invariant.bounded.begins pass.pid c.args.tid (seen_of pass.badge.views) c.args.turns.now log c.take_in.new.self.log (ap (λ k. k.log) c.take_in.ensures.keeper)
     c.pass.invariant.seen c.self.invariant.legal (later_of c.lent.result pass.pid (seen_of pass.badge.views) log c.lent.ensures c.take_in.ensures.later)
     c.wake-woken.new.guest c.wake-woken.new.self.keeper.log c.wake-woken.result c.wake-woken.ensures.woken
 
@@ -37,7 +37,7 @@ pub returns-clause-pass : goal.returns-clause-pass
 returns-clause-pass g c =
     let pass = c.pass.inside in
     let log = c.self.inside.recorded.keeper.log in
-    pass_after_wake g.J.Naming.launch pass.pid c.args.tid (seen_of pass.badge.views) c.args.turns.now log c.take_in.new.self.log (ap (λ k. k.log) c.take_in.ensures.keeper)
+    pass_after_wake g.J.Naming.launch c.self.invariant.bounded.begins pass.pid c.args.tid (seen_of pass.badge.views) c.args.turns.now log c.take_in.new.self.log (ap (λ k. k.log) c.take_in.ensures.keeper)
     c.pass.invariant.seen c.self.invariant.legal (later_of c.lent.result pass.pid (seen_of pass.badge.views) log c.lent.ensures c.take_in.ensures.later)
     c.wake-woken.new.guest c.wake-woken.new.self.keeper.log c.wake-woken.result c.wake-woken.ensures.woken
     c.args.pass.now (record { pid = c.drop.inside.pid; seen = seen_of c.drop.inside.badge.views })

@@ -1,10 +1,15 @@
-use Rattle.std.proofs.Common.{◌≡◌, ℕ, ◌<◌, List, length, slice_index_or, IsSome, refl, sym, ap, subst, ◌∙◌, arith}
+use Rattle.std.specs.Prelude.{is_ok}
+use Rattle.std.proofs.Common.{◌≡◌, ℕ, ◌<◌, List, ◌++◌, length, slice_index_or, IsSome, refl, sym, ap, subst, ◌∙◌, arith}
 use Rattle.std.specs.FinMap.{get}
-use Rattle.call_codec.specs.Arguments.{args_of}
+use Rattle.call_codec.specs.Arguments.{Encodes}
 use Rattle.call_codec.proofs.Puts.{may_map_for}
 use Rattle.shared_history.proofs.KeptEntries.{takes_reserved}
+use Rattle.kernel_core.specs.Waiting.{caller}
+use Rattle.run_model.specs.Own.{one_of}
+use Rattle.kernel_cell.specs.Acting.{unless_lost}
 use Rattle.kernel_cell.proofs.EntryEffects.{call_encoded}
-use Rattle.kernel_cell.proofs.RecordedSteps.{kernel_early, log_short, constants_early, live_there, few_there, call_runs_there, other_there, number_there, fits_call, recorded_call, acted_there}
+use Rattle.kernel_cell.proofs.Programs.{begun_or_lost, may_begin}
+use Rattle.kernel_cell.proofs.RecordedSteps.{kernel_early, log_short, constants_early, live_there, few_there, call_runs_there, other_there, number_there, fits_call, recorded_call, acted_or_lost, keeps_any, no_child}
 use Rattle.run_model.specs.World.{Guest, world, registers_of, called_guest}
 use Rattle.kernel_cell.proofs.recorded.Recorded.call.Goals as goal
 
@@ -34,7 +39,7 @@ pub make_room-requires : goal.make_room-requires
 make_room-requires g c =
     let self = c.args.self.now in
     let live = live_there g.J.Naming.launch g.J.Naming.keeps_all self.keeper.log self.kernel self.constants self.kept c.requires.recorded c.args.pid (c.if-not-live.ensures.0 refl) in
-    may_map_for c.args.guest.now.memory (registers_of c.args.guest.now c.args.tid) c.args.call
+    may_map_for c.args.guest.now.memory (registers_of c.args.guest.now c.args.tid) c.args.guest.now.left c.args.call
     (call_encoded (world g.J.Naming.launch self.keeper.log) c.args.pid c.args.tid c.args.turns c.args.guest.now c.args.call (c.requires.asks live))
 
 pub answer-requires-clause-thread : goal.answer-requires-clause-thread
@@ -47,8 +52,8 @@ pub answer-requires-clause-encoded : goal.answer-requires-clause-encoded
 answer-requires-clause-encoded g c =
     let self = c.args.self.now in
     let live = live_there g.J.Naming.launch g.J.Naming.keeps_all self.keeper.log self.kernel self.constants self.kept c.requires.recorded c.args.pid (c.if-not-live.ensures.0 refl) in
-    subst (λ (guest : Guest). c.args.call ≡ args_of guest.memory (registers_of guest c.args.tid)) (sym c.in-Ok-make_room.ensures.without)
-    (call_encoded (world g.J.Naming.launch self.keeper.log) c.args.pid c.args.tid c.args.turns c.args.guest.now c.args.call (c.requires.asks live))
+    subst (λ (guest : Guest). Encodes guest.memory (registers_of guest c.args.tid) c.args.call) (sym c.in-Ok-make_room.ensures.without)
+    (c.args.guest.now.left, call_encoded (world g.J.Naming.launch self.keeper.log) c.args.pid c.args.tid c.args.turns c.args.guest.now c.args.call (c.requires.asks live))
 
 pub answer-requires-clause-other : goal.answer-requires-clause-other
 answer-requires-clause-other g c =
@@ -91,12 +96,35 @@ returns-clause-recorded g c =
     (takes_reserved _ self.kept c.reserve.new.self _ c.reserve.ensures.all c.reserve.ensures.entries c.reserve.ensures.denied
     (record { all_is = c.take_call.ensures.all; entries_are = c.take_call.ensures.entries; denied_are = c.take_call.ensures.denied }))
 
+pub begin-begun-requires : goal.begin-begun-requires
+begin-begun-requires g c =
+    let self = c.args.self.now in
+    let live = live_there g.J.Naming.launch g.J.Naming.keeps_all self.keeper.log self.kernel self.constants self.kept c.requires.recorded c.args.pid (c.if-not-live.ensures.0 refl) in
+    let guest = c.args.guest.now in
+    may_begin guest.memory (registers_of guest c.args.tid) guest.left self.constants self.kernel (caller self.kernel c.args.pid c.args.tid) c.args.call
+    c.step-answer.result c.step-answer.new.self
+    (call_encoded (world g.J.Naming.launch self.keeper.log) c.args.pid c.args.tid c.args.turns guest c.args.call (c.requires.asks live)) c.step-answer.ensures.step
+
+pub returns-clause-held : goal.returns-clause-held
+returns-clause-held g c =
+    ap (λ k. k.held) c.append_call.ensures
+    ∙ ap (λ o. one_of o ++ c.args.self.now.keeper.held) (no_child c.args.call c.step-answer.result c.requires.plain) ∙ c.requires.held
+
 pub returns-clause-acted : goal.returns-clause-acted
 returns-clause-acted g c =
     let self = c.args.self.now in
     let live = live_there g.J.Naming.launch g.J.Naming.keeps_all self.keeper.log self.kernel self.constants self.kept c.requires.recorded c.args.pid (c.if-not-live.ensures.0 refl) in
-    acted_there g.J.Naming.launch g.J.Naming.keeps_all self.keeper.log self.kernel self.constants self.kept c.requires.recorded c.args.pid c.args.tid c.args.turns c.args.call c.args.guest.now
+    let guest = c.args.guest.now in
+    let answered = c.answer.ensures ∙ ap (λ (x : Guest). called_guest x c.args.tid c.args.call c.step-answer.result) c.in-Ok-make_room.ensures.without in
+    acted_or_lost g.J.Naming.launch g.J.Naming.keeps_all self.keeper.log self.kernel self.constants self.kept c.requires.recorded c.args.pid c.args.tid c.args.turns c.args.call guest
     (c.requires.asks live) c.step-answer.result c.step-answer.new.self c.moment.result c.moment.ensures c.step-answer.ensures.step live
-    c.append_call.new.self.log (ap (λ k. k.log) c.append_call.ensures) c.answer.new.self
-    (c.answer.ensures ∙ ap (λ (guest : Guest). called_guest guest c.args.tid c.args.call c.step-answer.result) c.in-Ok-make_room.ensures.without)
-    c.acted.result c.live-2.result c.call_end-end.result c.next_thread-next.result c.acted.ensures c.call_end-end.ensures c.next_thread-next.ensures c.live-2.ensures
+    c.append_call.new.self.log (ap (λ k. k.log) c.append_call.ensures) c.begin-begun.new.self c.begin-begun.result
+    (begun_or_lost c.begin-begun.result self.constants self.kernel (caller self.kernel c.args.pid c.args.tid) c.args.call c.step-answer.result c.step-answer.new.self
+    c.args.pid c.args.tid guest c.answer.new.self c.begin-begun.new.self c.requires.plain c.step-answer.ensures.step answered c.begin-begun.ensures.ok)
+    c.unless_lost.result c.live-2.result c.call_end-end.result c.next_thread-next.result
+    (c.unless_lost.ensures ∙ ap (unless_lost (is_ok c.begin-begun.result)) c.acted.ensures) c.call_end-end.ensures c.next_thread-next.ensures c.live-2.ensures
+
+pub returns-clause-guest : goal.returns-clause-guest
+returns-clause-guest g c =
+    keeps_any c.args.guest.now c.begin-begun.new.self c.begin-begun.result c.unless_lost.result c.live-2.result c.call_end-end.result c.next_thread-next.result
+    (c.unless_lost.ensures ∙ ap (unless_lost (is_ok c.begin-begun.result)) c.acted.ensures)

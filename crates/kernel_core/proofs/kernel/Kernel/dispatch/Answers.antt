@@ -10,9 +10,10 @@ use Rattle.abi_types.specs.declared.reply.Reply.{Reply}
 use Rattle.abi_types.specs.declared.who.Who.{Who}
 use Rattle.kernel_model.specs.Calls.{meaning_of, named, refusal, takes_memory}
 use Rattle.kernel_model.specs.Families.ClockCalls.{drawn_by, real_time}
-use Rattle.kernel_model.specs.Families.DescriptorCalls.{stat_get}
+use Rattle.kernel_model.specs.Families.DescriptorCalls.{lowest_free, stat_get}
+use Rattle.kernel_model.specs.Families.ForkCalls.{fork_at}
 use Rattle.kernel_model.specs.Families.LockWords.{unlocked}
-use Rattle.kernel_model.specs.Families.ProcessCalls.{exit_of, left_with, made_in}
+use Rattle.kernel_model.specs.Families.ProcessCalls.{exit_of, left_with, made_in, raise_of, signal_of}
 use Rattle.kernel_model.specs.Families.SocketCalls.{create, made_of}
 use Rattle.kernel_model.specs.Laws.{HasAll}
 use Rattle.kernel_model.specs.Outcome.{Outcome, IsSuccess, replies}
@@ -29,11 +30,12 @@ use Rattle.kernel_core.specs.Entries.{entry_outcome}
 use Rattle.kernel_core.specs.Files.{file_outcome}
 use Rattle.kernel_core.specs.OffsetCalls.{offset_outcome}
 use Rattle.kernel_core.specs.Opening.{open_outcome}
+use Rattle.kernel_core.specs.Programs.{exec_outcome}
 use Rattle.kernel_core.specs.Sockets.{socket_on}
 use Rattle.kernel_core.proofs.Acts.{act_allowed, act_refused, by_outcome, stat_get_sets_nothing}
 use Rattle.kernel_core.proofs.Channels.{socket_does}
 use Rattle.kernel_core.proofs.EntryCalls.{entries_does, first_is_named}
-use Rattle.kernel_core.proofs.Families.{all_named, answered_does, answered_is, change_does, change_is, change_replaces, change_takes_memory, ends_is, entries_is, entries_on, exit_is, file_is, file_on, new_thread_is, offset_is, offset_on, on_err_all, on_err_both, open_is, poll_does, poll_is, poll_sets_nothing, poll_takes_memory, random_is, resolution_is, socket_is, state_is, thread_exit_is, time_is, unbuilt_does, unbuilt_is, zeros_does, zeros_is}
+use Rattle.kernel_core.proofs.Families.{all_named, answered_does, answered_is, change_does, change_is, change_replaces, change_takes_memory, ends_is, entries_is, entries_on, exec_is, exit_is, file_is, file_on, fork_is, new_thread_is, offset_is, offset_on, on_err_all, on_err_both, open_is, poll_does, poll_is, poll_sets_nothing, poll_takes_memory, raise_is, random_is, resolution_is, socket_is, state_is, thread_exit_is, time_is, unbuilt_does, unbuilt_is, zeros_does, zeros_is}
 use Rattle.kernel_core.proofs.FileCalls.{file_does}
 use Rattle.kernel_core.proofs.OffsetCalls.{offset_does}
 use Rattle.kernel_core.proofs.OpenCalls.{open_does}
@@ -467,3 +469,73 @@ returns-in-Exit-clause-ok c =
     let is = allowed a (call.ProcExit code) o c.in_default-refusal.is (exit_is c.args.call.now c.family.result c.family.ensures code c.in-Exit.is) refl in
     by_outcome c.args.constants.now S c.end_process.new.self who c.args.call.now (answer.Reply c.success.result) o is
     (ap answer.Reply c.success.ensures, c.end_process.ensures)
+
+-- ---- children, programs and signals
+
+pub proc_fork-requires-clause-valid : goal.proc_fork-requires-clause-valid
+proc_fork-requires-clause-valid c = valid (goal.at.proc_fork-requires-clause-valid c).After-refusal
+
+pub returns-in-Fork-clause-ok : goal.returns-in-Fork-clause-ok
+returns-in-Fork-clause-ok c =
+    let a = (goal.at.returns-in-Fork-clause-ok c).After-refusal in
+    let S = c.args.self.now in
+    let who = c.args.who.now in
+    let left = c.in-Fork.left in
+    let o = fork_at left who.pid who.tid (get S.processes who.pid) c.in-Some.table.now (lowest_free c.in-Some.table.now) in
+    let is = allowed a (call.ProcFork left) o c.in_default-refusal.is (fork_is c.args.call.now c.family.result c.family.ensures left c.in-Fork.is) refl in
+    IfOk-weaker _ _ _ (λ given done. by_outcome c.args.constants.now S c.proc_fork.new.self who c.args.call.now given o is (done c.in-Some.table.now (there a)))
+    c.proc_fork.ensures.ok
+
+pub returns-in-Fork-clause-err : goal.returns-in-Fork-clause-err
+returns-in-Fork-clause-err c =
+    let a = (goal.at.returns-in-Fork-clause-err c).After-refusal in
+    let S = c.args.self.now in
+    let who = c.args.who.now in
+    let left = c.in-Fork.left in
+    let same = fork_is c.args.call.now c.family.result c.family.ensures left c.in-Fork.is in
+    let o = fork_at left who.pid who.tid (get S.processes who.pid) c.in-Some.table.now (lowest_free c.in-Some.table.now) in
+    let is = allowed a (call.ProcFork left) o c.in_default-refusal.is same refl in
+    on_err_both c.proc_fork.result c.proc_fork.ensures.only c.proc_fork.ensures.err
+    (λ succeeds unchanged. lacks a c.proc_fork.new.self (call.ProcFork left) o same is refl (succeeds c.in-Some.table.now (there a)) unchanged)
+
+pub proc_exec-requires-clause-valid : goal.proc_exec-requires-clause-valid
+proc_exec-requires-clause-valid c = valid (goal.at.proc_exec-requires-clause-valid c).After-refusal
+
+pub returns-in-Exec-clause-ok : goal.returns-in-Exec-clause-ok
+returns-in-Exec-clause-ok c =
+    let a = (goal.at.returns-in-Exec-clause-ok c).After-refusal in
+    let S = c.args.self.now in
+    let who = c.args.who.now in
+    let fds = c.in-Exec.fds.now in
+    let same = exec_is c.args.call.now c.family.result c.family.ensures c.in-Exec.fd c.in-Exec.fds c.in-Exec.is in
+    let o = exec_outcome c.args.constants.now.key S who.pid who.tid c.in-Some.table.now c.in-Exec.fd fds in
+    let is = allowed a (call.ProcExec c.in-Exec.fd same.0 fds) o c.in_default-refusal.is same.1 refl in
+    IfOk-weaker _ _ _ (λ given done. by_outcome c.args.constants.now S c.proc_exec.new.self who c.args.call.now given o is (done c.in-Some.table.now (there a)))
+    c.proc_exec.ensures.ok
+
+pub returns-in-Exec-clause-err : goal.returns-in-Exec-clause-err
+returns-in-Exec-clause-err c =
+    let a = (goal.at.returns-in-Exec-clause-err c).After-refusal in
+    let S = c.args.self.now in
+    let who = c.args.who.now in
+    let fds = c.in-Exec.fds.now in
+    let same = exec_is c.args.call.now c.family.result c.family.ensures c.in-Exec.fd c.in-Exec.fds c.in-Exec.is in
+    let o = exec_outcome c.args.constants.now.key S who.pid who.tid c.in-Some.table.now c.in-Exec.fd fds in
+    let called = call.ProcExec c.in-Exec.fd same.0 fds in
+    let is = allowed a called o c.in_default-refusal.is same.1 refl in
+    on_err_both c.proc_exec.result c.proc_exec.ensures.only c.proc_exec.ensures.err
+    (λ succeeds unchanged. lacks a c.proc_exec.new.self called o same.1 is refl (succeeds c.in-Some.table.now (there a)) unchanged)
+
+pub proc_raise-requires-clause-valid : goal.proc_raise-requires-clause-valid
+proc_raise-requires-clause-valid c = valid (goal.at.proc_raise-requires-clause-valid c).After-refusal
+
+pub returns-in-Raise-clause-ok : goal.returns-in-Raise-clause-ok
+returns-in-Raise-clause-ok c =
+    let a = (goal.at.returns-in-Raise-clause-ok c).After-refusal in
+    let S = c.args.self.now in
+    let who = c.args.who.now in
+    let signal = c.in-Raise.signal in
+    let o = raise_of who.pid (get S.processes who.pid) (signal_of signal) in
+    let is = allowed a (call.ProcRaise signal) o c.in_default-refusal.is (raise_is c.args.call.now c.family.result c.family.ensures signal c.in-Raise.is) refl in
+    by_outcome c.args.constants.now S c.proc_raise.new.self who c.args.call.now (answer.Reply c.proc_raise.result) o is
+    (c.proc_raise.ensures.reply, c.proc_raise.ensures.state)

@@ -4,6 +4,7 @@ use Rattle.std.specs.FinMap.{FinMap, get, insert, empty}
 use Rattle.abi_types.specs.declared.status.Status.{Status}
 use Rattle.kernel_model.specs.Families.ProcessCalls.{ended_process, end_updates}
 use Rattle.abi_types.specs.declared.open_kind.OpenKind.{OpenKind}
+use Rattle.channel_calls.specs.Calls.{AllGoOn, AreFew, Channels}
 use Rattle.tree_model.specs.Opens.{is_used}
 use Rattle.kernel_model.specs.Release.{release}
 use Rattle.kernel_model.specs.State.{State, Table, put_all}
@@ -21,7 +22,7 @@ use Rattle.kernel_core.proofs.kernel.Kernel.end_process.Goals.{After-release}
 
 pub let_go_all-requires : goal.let_go_all-requires
 let_go_all-requires c =
-    covered_alone c.self.inside.tables c.from-p.result c.get_mut-2.result.now (sym c.get_mut-2.ensures.value) c.self.inside.channels c.self.inside.objects.counts
+    covered_alone c.self.inside.tables c.from-p.result c.get_mut.result.now (sym c.get_mut.ensures.value) c.self.inside.channels c.self.inside.objects.counts
     c.self.invariant.counted
 
 -- the fields as they are in the end
@@ -55,20 +56,20 @@ after : (c : After-release) → fields c ≡ release (unreleased c)
 after c =
     let k = c.self.inside in
     let same : c.from-p.result ≡ c.args.pid = c.from-p.ensures ∙ c.pid.view_is in
-    let there : Some c.get_mut.result.now ≡ get k.processes c.args.pid = c.get_mut.ensures.value ∙ ap (get k.processes) same in
+    let there : Some c.get_mut-own.result.now ≡ get k.processes c.args.pid = c.get_mut-own.ensures.value ∙ ap (get k.processes) same in
     let own : insert k.processes c.from-p.result c.end.new.self ≡ insert k.processes c.args.pid (ended_process (get k.processes c.args.pid)) =
     ap (insert k.processes c.from-p.result) (c.end.ensures ∙ ap ended_process there) ∙ ap (λ (p : ℕ). insert k.processes p (ended_process (get k.processes c.args.pid))) same in
     let statuses : c.replace.new.self ≡ insert k.statuses c.args.pid c.args.status =
     c.replace.ensures.new ∙ ap (λ (p : ℕ). insert k.statuses p c.args.status) same in
     let given : state_by (insert k.tables c.from-p.result c.let_go_all.new.table) (insert k.processes c.from-p.result c.end.new.self) c.replace.new.self
-    c.let_go_all.new.objects.kinds k.channels k.tree
+    c.let_go_all.new.objects.kinds c.wake_waiting.new.channels k.tree
     ≡ state_by (unreleased c).tables (unreleased c).processes (unreleased c).statuses (unreleased c).opens k.channels k.tree =
-    λ i. state_by (emptied c i) (own i) (statuses i) (c.let_go_all.ensures.kinds i) k.channels k.tree in
+    λ i. state_by (emptied c i) (own i) (statuses i) (c.let_go_all.ensures.kinds i) (c.wake_waiting.ensures i) k.tree in
     ap (λ (S : State). record S { clock = k.clock; terms = k.terms }) (c.release.ensures.state ∙ ap release given)
     ∙ sym (release_besides (state_by (unreleased c).tables (unreleased c).processes (unreleased c).statuses (unreleased c).opens k.channels k.tree) k.clock k.terms)
 
 k_has : (c : After-release) → IsSome (get c.self.inside.tables c.args.pid)
-k_has c = ap (λ p. is_some (get c.self.inside.tables p)) (sym (c.from-p.ensures ∙ c.pid.view_is)) ∙ ap is_some (sym c.get_mut-2.ensures.value)
+k_has c = ap (λ p. is_some (get c.self.inside.tables p)) (sym (c.from-p.ensures ∙ c.pid.view_is)) ∙ ap is_some (sym c.get_mut.ensures.value)
 
 -- the tables are what the release leaves of those before it
 tables_are : (c : After-release) → c.release.new.tables ≡ (release (unreleased c)).tables
@@ -76,10 +77,12 @@ tables_are c = ap (λ (S : State). S.tables) (after c)
 
 pub release-requires-clause-counted : goal.release-requires-clause-counted
 release-requires-clause-counted c =
-    subst (λ (t : Table). AreCounted c.let_go_all.new.objects.counts (insert c.self.inside.tables c.from-p.result t) c.self.inside.channels)
+    subst (λ (chans : Channels). AreCounted c.let_go_all.new.objects.counts (insert c.self.inside.tables c.from-p.result c.let_go_all.new.table) chans)
+    (sym c.wake_waiting.ensures)
+    (subst (λ (t : Table). AreCounted c.let_go_all.new.objects.counts (insert c.self.inside.tables c.from-p.result t) c.self.inside.channels)
     (sym c.let_go_all.ensures.empty)
-    (emptied_counts c.self.inside.tables c.from-p.result c.get_mut-2.result.now (sym c.get_mut-2.ensures.value) c.self.inside.channels c.self.inside.objects.counts
-    c.self.invariant.counted c.let_go_all.new.objects.counts c.let_go_all.ensures.counts)
+    (emptied_counts c.self.inside.tables c.from-p.result c.get_mut.result.now (sym c.get_mut.ensures.value) c.self.inside.channels c.self.inside.objects.counts
+    c.self.invariant.counted c.let_go_all.new.objects.counts c.let_go_all.ensures.counts))
 
 pub release-requires-clause-tables : goal.release-requires-clause-tables
 release-requires-clause-tables c = λ q.
@@ -97,7 +100,7 @@ release-requires-clause-used c = λ n there.
     ap (λ (m : FinMap nat_cmp OpenKind). is_used m c.self.inside.tree n) c.let_go_all.ensures.kinds ∙ c.self.invariant.valid.kept n there
 
 pub release-requires-clause-going : goal.release-requires-clause-going
-release-requires-clause-going c = c.self.invariant.valid.going
+release-requires-clause-going c = subst AllGoOn (sym c.wake_waiting.ensures) c.self.invariant.valid.going
 
 pub release-requires-clause-tree : goal.release-requires-clause-tree
 release-requires-clause-tree c = c.self.invariant.valid.nearly.tree
@@ -110,7 +113,7 @@ invariant_of-self c =
     record {
       valid = subst IsValid (sym (after a)) (release_restores _ (nearly a));
       counted = a.release.ensures.counted;
-      few = a.release.ensures.few a.self.invariant.few;
+      few = a.release.ensures.few (subst AreFew (sym a.wake_waiting.ensures) a.self.invariant.few);
       small = subst AreSmall (sym (tables_are a)) (small_released (unreleased a) (small_set k.tables a.args.pid empty a.self.invariant.small small_empty));
       processes = subst (KeysBelow (2 ^ 32)) (sym (tables_are a))
           (below_released (unreleased a) (2 ^ 32) (below-insert_again (2 ^ 32) k.tables a.args.pid empty a.self.invariant.processes there));

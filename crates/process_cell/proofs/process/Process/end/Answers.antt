@@ -9,14 +9,16 @@ pub end-stopped-requires : goal.end-stopped-requires
 end-stopped-requires g c =
     let v = c.self.inside in
     subst (λ (ts : List ℕ). AsksEnd (world g.J.Naming.launch v.pass.seen) v.pass.pid c.args.tid ts c.args.how) (sym c.replace-turns.ensures.value)
-    (asks_end g.J.Naming.launch v.pass c.args.tid v.threads v.turns v.guest v.phase c.args.self.now c.self.invariant c.self.view_is c.args.how c.requires)
+    (asks_end g.J.Naming.launch v.pass c.args.tid v.threads v.turns v.guest v.phase c.args.self.now c.self.invariant.1 c.self.view_is c.args.how c.requires)
 
 pub invariant_of-self : goal.invariant_of-self
 invariant_of-self g c =
-    let v = c.self.inside in
-    tied_end g.J.Naming.launch v.pass c.end-stopped.new.pass c.args.tid v.threads c.replace-turns.result c.replace-turns.new.dest c.args.how v.guest
-    c.phase_after-self-inside.result c.end-stopped.result c.did_after_end-did.result c.end-stopped.ensures c.did_after_end-did.ensures
-    c.phase_after-self-inside.ensures
+    let v = c.self.inside in (
+      c.self.invariant.0,
+      tied_end g.J.Naming.launch v.pass c.end-stopped.new.pass c.args.tid v.threads c.replace-turns.result c.replace-turns.new.dest c.args.how v.guest
+          c.phase_after-self-inside.result c.end-stopped.result c.did_after_end-did.result c.end-stopped.ensures c.did_after_end-did.ensures
+          c.phase_after-self-inside.ensures,
+    )
 
 pub returns-clause-ended : goal.returns-clause-ended
 returns-clause-ended g c =

@@ -1,0 +1,138 @@
+use Rattle.std.proofs.Common.{◌≡◌, ℕ, ◌^◌, Some, IsSome, is_some, sym, ap, subst, ◌∙◌}
+use Rattle.std.specs.Ordering.{nat_cmp}
+use Rattle.std.specs.FinMap.{FinMap, get, insert}
+use Rattle.abi_types.specs.declared.open_kind.OpenKind.{OpenKind}
+use Rattle.channel_calls.specs.Calls.{AllGoOn, AreFew, Channels}
+use Rattle.fd_table.specs.Sizes.{KeysBelow, below-insert_again}
+use Rattle.tree_model.specs.Opens.{is_used}
+use Rattle.kernel_model.specs.OwnChanges.{begun_anew}
+use Rattle.kernel_model.specs.Release.{release}
+use Rattle.kernel_model.specs.Start.{canary_words}
+use Rattle.kernel_model.specs.State.{State, ProcessState, put_all}
+use Rattle.kernel_model.specs.Valid.{IsNearlyValid, IsValid}
+use Rattle.kernel_model.proofs.Valids.{release_restores, same_value, some_again}
+use Rattle.kernel_parts.specs.Released.{state_by}
+use Rattle.kernel_parts.proofs.Releases.{release_besides}
+use Rattle.process_calls.specs.Forks.{IsOpenOf}
+use Rattle.kernel_core.specs.Programs.{begun_updates}
+use Rattle.kernel_core.specs.contracts.kernel.Kernel.{the_view}
+use Rattle.kernel_core.proofs.Channels.{AreCounted, covered_alone, table_counts}
+use Rattle.kernel_core.proofs.ForkCalls.{counts_room, opens_counted}
+use Rattle.kernel_core.proofs.Kept.{AreSmall, below_released, small_released, small_set}
+use Rattle.kernel_core.proofs.kernel.Kernel.begin.Goals as goal
+use Rattle.kernel_core.proofs.kernel.Kernel.begin.Goals.{After-get_mut-own, After-release}
+
+-- the process, by its number
+same : (c : After-get_mut-own) → c.from-p.result ≡ c.args.pid
+same c = c.from-p.ensures ∙ c.pid.view_is
+
+owned : (c : After-get_mut-own) → get c.self.inside.processes c.args.pid ≡ Some c.get_mut-own.result.now
+owned c = ap (get c.self.inside.processes) (sym (same c)) ∙ sym c.get_mut-own.ensures.value
+
+seen : (c : After-get_mut-own) → get c.args.self.now.processes c.args.pid ≡ Some c.get_mut-own.result.now
+seen c = ap (λ (S : State). get S.processes c.args.pid) (sym c.self.view_is) ∙ owned c
+
+pub begin_anew-requires : goal.begin_anew-requires
+begin_anew-requires d =
+    let c = (goal.at.begin_anew-requires d).After-get_mut-own in
+    d.requires.can c.get_mut-own.result.now (seen c)
+
+pub put_table-requires-clause-covered : goal.put_table-requires-clause-covered
+put_table-requires-clause-covered c =
+    covered_alone c.self.inside.tables c.from-p.result c.get_mut.result.now (sym c.get_mut.ensures.value) c.self.inside.channels c.self.inside.objects.counts
+    c.self.invariant.counted
+
+pub put_table-requires-clause-counted : goal.put_table-requires-clause-counted
+put_table-requires-clause-counted c = opens_counted (the_view c.self.inside) c.self.inside.objects.counts c.self.invariant
+
+pub put_table-requires-clause-opens : goal.put_table-requires-clause-opens
+put_table-requires-clause-opens c = λ n. subst (λ (S : State). IsOpenOf S.opens (get c.args.table n)) (sym c.self.view_is) (c.requires.opens n)
+
+pub put_table-requires-clause-few : goal.put_table-requires-clause-few
+put_table-requires-clause-few c = counts_room (the_view c.self.inside) c.self.inside.objects.counts c.self.invariant
+
+-- the fields as they are in the end
+abbrev fields : After-release → State
+fields c = record (the_view c.self.inside) {
+  tables = c.release.new.tables;
+  processes = c.release.new.processes;
+  statuses = c.release.new.statuses;
+  opens = c.release.new.objects.kinds;
+  nodes = c.release.new.tree.nodes;
+  names = c.release.new.tree.names;
+  chans = c.release.new.channels;
+}
+
+-- before anything is released
+abbrev unreleased : After-release → State
+unreleased c = put_all (begun_updates c.args.pid c.args.tid c.get_mut-own.result.now c.args.table) (the_view c.self.inside)
+
+after : (c : After-release) → fields c ≡ release (unreleased c)
+after c =
+    let k = c.self.inside in
+    let same : c.from-p.result ≡ c.args.pid = c.from-p.ensures ∙ c.pid.view_is in
+    let new : ProcessState = begun_anew canary_words c.args.tid c.get_mut-own.result.now in
+    let own : insert k.processes c.from-p.result c.begin_anew.new.self ≡ insert k.processes c.args.pid new =
+    ap (insert k.processes c.from-p.result) c.begin_anew.ensures ∙ ap (λ (p : ℕ). insert k.processes p new) same in
+    let tables : insert k.tables c.from-p.result c.put_table.new.table ≡ insert k.tables c.args.pid c.args.table =
+    ap (insert k.tables c.from-p.result) c.put_table.ensures.table ∙ ap (λ (p : ℕ). insert k.tables p c.args.table) same in
+    let given : state_by (insert k.tables c.from-p.result c.put_table.new.table) (insert k.processes c.from-p.result c.begin_anew.new.self) k.statuses
+    c.put_table.new.objects.kinds c.wake_waiting.new.channels k.tree
+    ≡ state_by (unreleased c).tables (unreleased c).processes k.statuses k.objects.kinds k.channels k.tree =
+    λ i. state_by (tables i) (own i) k.statuses (c.put_table.ensures.kinds i) (c.wake_waiting.ensures i) k.tree in
+    ap (λ (S : State). record S { clock = k.clock; terms = k.terms }) (c.release.ensures.state ∙ ap release given)
+    ∙ sym (release_besides (state_by (unreleased c).tables (unreleased c).processes k.statuses k.objects.kinds k.channels k.tree) k.clock k.terms)
+
+pub release-requires-clause-counted : goal.release-requires-clause-counted
+release-requires-clause-counted c =
+    subst (λ (chans : Channels). AreCounted c.put_table.new.objects.counts (insert c.self.inside.tables c.from-p.result c.put_table.new.table) chans)
+    (sym c.wake_waiting.ensures)
+    (table_counts c.self.inside.tables c.from-p.result c.get_mut.result.now (sym c.get_mut.ensures.value) c.self.inside.channels c.self.inside.objects.counts
+    c.self.invariant.counted c.put_table.new.table c.put_table.new.objects.counts c.put_table.ensures.counts)
+
+pub release-requires-clause-tables : goal.release-requires-clause-tables
+release-requires-clause-tables c = λ q.
+    some_again c.self.inside.tables c.from-p.result c.get_mut.result.now c.put_table.new.table q (sym c.get_mut.ensures.value)
+    ∙ c.self.invariant.valid.nearly.tables q
+
+pub release-requires-clause-processes : goal.release-requires-clause-processes
+release-requires-clause-processes c = λ q.
+    some_again c.self.inside.processes c.from-p.result c.get_mut-own.result.now c.begin_anew.new.self q (sym c.get_mut-own.ensures.value)
+    ∙ c.self.invariant.valid.nearly.owns q
+
+pub release-requires-clause-used : goal.release-requires-clause-used
+release-requires-clause-used c = λ n there.
+    ap (λ (m : FinMap nat_cmp OpenKind). is_used m c.self.inside.tree n) c.put_table.ensures.kinds ∙ c.self.invariant.valid.kept n there
+
+pub release-requires-clause-going : goal.release-requires-clause-going
+release-requires-clause-going c = subst AllGoOn (sym c.wake_waiting.ensures) c.self.invariant.valid.going
+
+pub release-requires-clause-tree : goal.release-requires-clause-tree
+release-requires-clause-tree c = c.self.invariant.valid.nearly.tree
+
+pub invariant_of-self : goal.invariant_of-self
+invariant_of-self d =
+    let a = (goal.at.invariant_of-self d).After-release in
+    let g = (goal.at.invariant_of-self d).After-get_mut-own in
+    let k = a.self.inside in
+    let there : IsSome (get k.tables a.args.pid) =
+    ap (λ p. is_some (get k.tables p)) (sym (same g)) ∙ ap is_some (sym a.get_mut.ensures.value) in
+    let tables : a.release.new.tables ≡ (release (unreleased a)).tables = ap (λ (S : State). S.tables) (after a) in
+    let nearly : IsNearlyValid (unreleased a) =
+    subst (λ S. IsNearlyValid (put_all (begun_updates a.args.pid a.args.tid a.get_mut-own.result.now a.args.table) S)) (sym a.self.view_is)
+    (a.requires.nearly a.get_mut-own.result.now (seen g)) in
+    record {
+      valid = subst IsValid (sym (after a)) (release_restores _ nearly);
+      counted = a.release.ensures.counted;
+      few = a.release.ensures.few (subst AreFew (sym a.wake_waiting.ensures) a.self.invariant.few);
+      small = subst AreSmall (sym tables) (small_released (unreleased a) (small_set k.tables a.args.pid a.args.table a.self.invariant.small a.requires.small));
+      processes = subst (KeysBelow (2 ^ 32)) (sym tables)
+          (below_released (unreleased a) (2 ^ 32) (below-insert_again (2 ^ 32) k.tables a.args.pid a.args.table a.self.invariant.processes there));
+    }
+
+pub returns : goal.returns
+returns d = λ own here.
+    let a = (goal.at.returns d).After-release in
+    let g = (goal.at.returns d).After-get_mut-own in
+    after a ∙ ap (λ (S : State). release (put_all (begun_updates a.args.pid a.args.tid a.get_mut-own.result.now a.args.table) S)) a.self.view_is
+    ∙ ap (λ x. release (put_all (begun_updates a.args.pid a.args.tid x a.args.table) a.args.self.now)) (same_value _ _ _ (seen g) here)

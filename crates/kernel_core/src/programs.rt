@@ -1,0 +1,187 @@
+//! The call that lets another program begin in a process.
+ghost use Rattle.std.specs.Prelude.{◌≡◌, ℕ, None, Some, true, IsSome, IfOk, IfErr, OnErr};
+ghost use Rattle.std.specs.FinMap as map;
+ghost use Rattle.clock_random.specs.Random.{random_bytes};
+ghost use Rattle.elf_image.specs.Checks.{fault_of};
+ghost use Rattle.fd_table.specs.Table.{IsTable};
+ghost use Rattle.kernel_core.specs.Programs.{Begins, begun_updates, exec_outcome, IsProgram};
+ghost use Rattle.kernel_model.specs.Families.ClockCalls.{can_draw};
+ghost use Rattle.kernel_model.specs.Families.ForkCalls.{exec_checked, listed};
+ghost use Rattle.kernel_model.specs.Outcome.{IsSuccess, replies};
+ghost use Rattle.kernel_model.specs.Release.{release};
+ghost use Rattle.kernel_model.specs.Start.{canary_words};
+ghost use Rattle.kernel_model.specs.State.{ProcessState, put_all, Table};
+ghost use Rattle.kernel_model.specs.Valid.{IsNearlyValid, IsValid};
+ghost use Rattle.process_calls.specs.Forks.{IsOpenOf};
+
+use crate::kernel::Kernel;
+use abi_base::MOST_DESCRIPTORS;
+use abi_types::{Answer, Constants, Errno, Payload, Pid, Reply, Tid, Who};
+use fd_table::FdTable;
+use kernel_parts::{ProcessState, open_of, release, wake_waiting};
+use lists::Bytes;
+use process_calls::{check_program, program_of, put_table};
+use right_rules::{refused, success_with};
+use std::alloc::{AllocError, Global};
+
+// A program that is to begin in a process.
+#[derive(Drop)]
+pub(crate) struct NewProgram {
+    // The bytes of its file.
+    elf: Bytes,
+    // The random bytes that it starts with.
+    canary: Bytes,
+    // The descriptors that the process has then.
+    table: FdTable,
+}
+
+// The descriptors that are listed of a table, at their places. Each is there. A list that has more of them than a table may have is no
+// different from one for which memory runs out.
+fn pick(table: &FdTable, fds: &[u32]) -> Result<FdTable, AllocError>
+    ensures picked { IfOk result (λ made. made ≡ listed table.now fds.now) }
+    ensures small { IfOk result IsTable }
+{
+    if fds.len() > MOST_DESCRIPTORS {
+        return Err(AllocError);
+    }
+    match table.pick(fds) {
+        Ok(made) => Ok(made),
+        Err(_) => Err(AllocError),
+    }
+}
+
+// The canary of the program with these bytes that begins in the process, or the reply where none begins. Both are looked at before memory
+// is said to have run out, since it may not in a call that is refused.
+fn plan_canary(
+    alloc: Global,
+    constants: &Constants,
+    pid: Pid,
+    own: &ProcessState,
+    elf: &[u8],
+) -> Result<Result<Bytes, Reply>, AllocError>
+    ensures ok { IfOk result (λ planned. IfOk planned (λ canary. (fault_of elf.now ≡ None) × (can_draw canary_words own.now ≡ true)
+        × (canary ≡ random_bytes constants.now.key pid own.now.counts.words 64))) }
+    ensures refused { IfOk result (λ planned. IfErr planned (λ reply. (t : ℕ) (table : Table)
+        → exec_checked constants.now.key pid t table elf.now (Some own.now) (fault_of elf.now) ≡ replies reply)) }
+    ensures only { OnErr result ((fault_of elf.now ≡ None) × (can_draw canary_words own.now ≡ true)) }
+{
+    let canary = own.next_canary(alloc, constants, pid);
+    match check_program(alloc, elf) {
+        Ok(false) => Ok(Err(refused(Errno::Noexec))),
+        Ok(true) => match canary? {
+            Some(bytes) => Ok(Ok(bytes)),
+            None => Ok(Err(refused(Errno::Again))),
+        },
+        Err(error) => match canary {
+            Ok(Some(_)) => Err(error),
+            Ok(None) => Ok(Err(refused(Errno::Again))),
+            Err(_) => Err(error),
+        },
+    }
+}
+
+// The program that begins in a process with these bytes and with the descriptors that are listed, or the reply where none begins.
+fn plan_program(
+    alloc: Global,
+    constants: &Constants,
+    pid: Pid,
+    own: &ProcessState,
+    table: &FdTable,
+    elf: &[u8],
+    fds: &[u32],
+) -> Result<Result<NewProgram, Reply>, AllocError>
+    ensures ok { IfOk result (λ planned. IfOk planned (IsProgram constants.now.key pid own.now table.now elf.now fds.now)) }
+    ensures refused { IfOk result (λ planned. IfErr planned (λ reply. (t : ℕ) (table : Table)
+        → exec_checked constants.now.key pid t table elf.now (Some own.now) (fault_of elf.now) ≡ replies reply)) }
+    ensures only { OnErr result ((fault_of elf.now ≡ None) × (can_draw canary_words own.now ≡ true)) }
+{
+    let canary = match plan_canary(alloc, constants, pid, own, elf)? {
+        Ok(canary) => canary,
+        Err(reply) => return Ok(Err(reply)),
+    };
+    let table = pick(table, fds)?;
+    let elf = Bytes::of(alloc, elf)?;
+    Ok(Ok(NewProgram { elf, canary, table }))
+}
+
+impl Kernel {
+    // The program that a call lets begin, or the reply where it lets none. All that takes memory is done here.
+    fn plan_exec(
+        &self,
+        constants: &Constants,
+        who: &Who,
+        fd: u32,
+        fds: &[u32],
+    ) -> Result<Result<NewProgram, Reply>, AllocError>
+        ensures ok { IfOk result (λ planned. IfOk planned (λ new. (table : Table) → map.get self.now.tables who.now.pid ≡ Some table
+            → Begins (exec_outcome constants.now.key self.now who.now.pid who.now.tid table fd fds.now) self.now who.now.pid who.now.tid new)) }
+        ensures refused { IfOk result (λ planned. IfErr planned (λ reply. (table : Table) → map.get self.now.tables who.now.pid ≡ Some table
+            → exec_outcome constants.now.key self.now who.now.pid who.now.tid table fd fds.now ≡ replies reply)) }
+        ensures only { OnErr result ((table : Table) → map.get self.now.tables who.now.pid ≡ Some table
+            → IsSuccess (exec_outcome constants.now.key self.now who.now.pid who.now.tid table fd fds.now).answer) }
+    {
+        let p = u64::from(who.pid.0);
+        let (Some(table), Some(own)) = (self.tables.get(p), self.processes.get(p)) else {
+            return Ok(Err(refused(Errno::Badf)));
+        };
+        let Some((_, kind)) = open_of(&self.tables, &self.objects, who.pid, fd) else {
+            return Ok(Err(refused(Errno::Badf)));
+        };
+        let Some(elf) = program_of(&self.tree, &kind) else {
+            return Ok(Err(refused(Errno::Badf)));
+        };
+        plan_program(self.alloc, constants, who.pid, own, table, elf, fds)
+    }
+
+    // Lets a program begin in the process, by this thread, with these descriptors. What nothing holds any more ends.
+    fn begin(&mut self, pid: Pid, tid: Tid, table: FdTable)
+        requires there { IsSome (map.get self.old.statuses pid) }
+        requires can { (own : ProcessState) → map.get self.old.processes pid ≡ Some own → can_draw canary_words own ≡ true }
+        requires small { IsTable table }
+        requires opens { (n : ℕ) → IsOpenOf self.old.opens (map.get table n) }
+        requires nearly { (own : ProcessState) → map.get self.old.processes pid ≡ Some own
+            → IsNearlyValid (put_all (begun_updates pid tid own table) self.old) }
+        ensures { (own : ProcessState) → map.get self.old.processes pid ≡ Some own
+            → self.new ≡ release (put_all (begun_updates pid tid own table) self.old) }
+    {
+        let p = u64::from(pid.0);
+        let own = self.processes.get_mut(p);
+        wake_waiting(&mut self.channels, pid, own);
+        own.begin_anew(tid);
+        put_table(self.tables.get_mut(p), &mut self.objects, table);
+        release(
+            &mut self.objects,
+            &mut self.tree,
+            &mut self.tables,
+            &mut self.processes,
+            &mut self.statuses,
+            &mut self.channels,
+        );
+    }
+
+    // Lets the program of a descriptor begin in the process, with the descriptors that are listed. `Err` changes nothing.
+    pub(crate) fn proc_exec(
+        &mut self,
+        constants: &Constants,
+        who: &Who,
+        fd: u32,
+        fds: &[u32],
+    ) -> Result<Answer, AllocError>
+        requires there { IsSome (map.get self.old.statuses who.now.pid) }
+        requires valid { IsValid self.old }
+        ensures ok { IfOk result (λ given. (table : Table) → map.get self.old.tables who.now.pid ≡ Some table →
+            (given ≡ (exec_outcome constants.now.key self.old who.now.pid who.now.tid table fd fds.now).answer)
+            × (self.new ≡ release (put_all (exec_outcome constants.now.key self.old who.now.pid who.now.tid table fd fds.now).updates self.old))) }
+        ensures only { OnErr result ((table : Table) → map.get self.old.tables who.now.pid ≡ Some table →
+            IsSuccess (exec_outcome constants.now.key self.old who.now.pid who.now.tid table fd fds.now).answer) }
+        ensures err { OnErr result (self.new ≡ self.old) }
+    {
+        let NewProgram { elf, canary, table } = match self.plan_exec(constants, who, fd, fds)? {
+            Ok(new) => new,
+            Err(reply) => return Ok(Answer::Reply(reply)),
+        };
+        self.begin(who.pid, who.tid, table);
+        let image = Payload::Image { elf, canary };
+        Ok(Answer::Reply(success_with(0, image)))
+    }
+}

@@ -1,0 +1,61 @@
+//! Threads that wait and end with their process, or since another program begins in it.
+ghost use Rattle.std.specs.Prelude.{◌≡◌, ◌≢◌, ◌==◌, ℕ, IfSome, IfNone, IsSome, None};
+ghost use Rattle.std.specs.FinMap as map;
+
+use crate::numbers::next_number;
+use crate::process::ProcessState;
+use abi_types::{Pid, Thread, Tid};
+use channel_calls::{Channels, ThreadOf};
+use maps::NumMap;
+
+// Notes that a thread is to be looked at again, if it waits.
+fn wake_if_waiting(channels: &mut Channels, pid: Pid, number: u64, thread: Option<&Thread>)
+    ensures { channels.new ≡ channels.old }
+{
+    if let (Some(Thread::Waits { .. }), Ok(tid)) = (thread, u32::try_from(number)) {
+        let tid = Tid(tid);
+        channels.wake(ThreadOf { pid, tid });
+    }
+}
+
+/// Notes that the threads of a process that wait are to be looked at again, before they end with it, so that nothing is kept for them. No
+/// contract rests on it.
+pub fn wake_waiting(channels: &mut Channels, pid: Pid, own: &ProcessState)
+    ensures { channels.new ≡ channels.old }
+{
+    let mut last = None;
+    while let Some(number) = next_number(&own.threads, last) {
+        wake_if_waiting(channels, pid, number, own.threads.get(number));
+        last = Some(number);
+    }
+}
+
+// A thread beside this one, if there is another.
+fn other_than(threads: &NumMap<Thread>, tid: u64) -> Option<u64>
+    ensures other { IfSome result (λ other. other ≢ tid) }
+    ensures there { IfSome result (λ other. IsSome (map.get threads.now other)) }
+    ensures none { IfNone result ((t : ℕ) → t ≢ tid → map.get threads.now t ≡ None) }
+{
+    let first = threads.first_from(0)?;
+    if first == tid {
+        threads.first_after(tid)
+    } else {
+        Some(first)
+    }
+}
+
+// Takes a thread away.
+fn take_away(threads: &mut NumMap<Thread>, tid: u64)
+    ensures { threads.new ≡ map.remove threads.old tid }
+{
+    threads.remove(tid);
+}
+
+// Takes each thread away but this one.
+pub(crate) fn keep_only(threads: &mut NumMap<Thread>, tid: u64)
+    ensures { threads.new ≡ map.retain_keys threads.old (λ t. t == tid) }
+{
+    while let Some(other) = other_than(threads, tid) {
+        take_away(threads, other);
+    }
+}

@@ -1,0 +1,3 @@
+pub mod Forks
+pub mod Programs
+pub mod Signals
