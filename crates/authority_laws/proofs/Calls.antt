@@ -40,8 +40,8 @@ use Rattle.kernel_model.specs.Reply.{refused, success}
 use Rattle.kernel_model.specs.State.{State, ProcessState, Table, put_all, put_one, set_open, set_table}
 use Rattle.abi_structures.specs.declared.events.Subscription.{Subscription}
 use Rattle.abi_types.specs.declared.reply.WordWrites.TheVariants.{Zero}
-use Rattle.kernel_model.specs.Families.WaitCalls.{clock_event, events_reply}
-use Rattle.kernel_model.proofs.WaitCalls.{poll_holds}
+use Rattle.kernel_model.specs.Families.Polls.{events_reply}
+use Rattle.kernel_model.proofs.Polls.{poll_holds}
 use Rattle.kernel_model.specs.Families.LockWords.{unlocked}
 use Rattle.kernel_model.specs.Families.ProcessCalls.{ended_process, made_if}
 use Rattle.kernel_model.specs.OwnChanges.{without_thread}
@@ -186,7 +186,7 @@ unbuilt_reported call is constants S v who table there seen =
 poll_reported : (subscriptions : List Subscription) → IsReported (call.Poll subscriptions)
 poll_reported subscriptions constants S v who table there seen =
     poll_holds (LeavesRow S who.pid (call.Poll subscriptions)) (refused_reported S who.pid (call.Poll subscriptions) Nosys nosys_is_error)
-    (λ userdata. kept S who.pid (call.Poll subscriptions) (replies (events_reply (clock_event userdata ∷ []))) (λ after row reply. refl) refl)
+    (λ event more. kept S who.pid (call.Poll subscriptions) (replies (events_reply (event ∷ more))) (λ after row reply. refl) refl)
     (kept S who.pid (call.Poll subscriptions) (parks Zero) (λ after row reply. refl) refl) subscriptions constants v who table
 
 -- ---- calls that change their process's table

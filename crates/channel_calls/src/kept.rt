@@ -1,4 +1,4 @@
-//! The channels of a kernel by number, each with the threads that wait on it.
+//! The channels of a kernel by number, and the threads that wait on them, or for the ends of processes.
 ghost use Rattle.std.specs.Prelude.{◌≡◌, ◌<◌, ◌≤◌, OnOk, OnErr, IfOk, IfErr, None, Some, IsSome, length, true, false, option_copied};
 ghost use Rattle.std.specs.FinMap as map;
 ghost use Rattle.channels.specs.declared.side.Side.{Side};
@@ -6,28 +6,19 @@ ghost use Rattle.channel_calls.specs.Kept.{IsAt};
 ghost use Rattle.channels.specs.Channels.{push, sends, pull, coming, must_wait, shut_at, left_at, released_at, most_carried, IsWhyNotPushed, IsPulled, IsFilled};
 ghost use Rattle.kernel_model.specs.Channels.{new_channel};
 
+use crate::waiters::{Spot, ThreadOf, Waiters, Waits};
 use crate::wakes::Wakes;
-use abi_types::{Descriptor, ObjId, Pid, Tid};
+use abi_types::{Descriptor, ObjId, Pid};
 use channels::{Channel, PullFault, Pulled, PushFault, Side};
 use maps::NumMap;
 use std::alloc::{AllocError, Global};
-use std::collections::VecDeque;
 use std::marker::Model;
 
-/// A thread of a process.
-#[derive(Clone, Copy)]
-pub struct ThreadOf {
-    /// The process.
-    pub pid: Pid,
-    /// The thread's number in it.
-    pub tid: Tid,
-}
-
-// A channel, which contracts see alone, and the threads that are noted at it.
+// A channel, which contracts see alone, and the threads that wait on it.
 #[derive(Drop)]
 pub(crate) struct Noted {
     pub channel: Channel,
-    pub threads: VecDeque<ThreadOf, Global>,
+    pub waiters: Waiters,
 }
 
 impl Model for Noted {
@@ -47,13 +38,22 @@ impl Noted {
     {
         Noted {
             channel,
-            threads: VecDeque::new(alloc),
+            waiters: Waiters::new(alloc),
         }
     }
 
-    // Whether the thread is noted here: it may have ended its wait though the channel is as it was.
-    fn has(&self, thread: &ThreadOf) -> bool {
-        self.threads.iter().any(|noted| noted.pid.0 == thread.pid.0 && noted.tid.0 == thread.tid.0)
+    // Notes a wait of a thread. `false` where memory lacked.
+    fn note(&mut self, wait: u64, thread: ThreadOf) -> bool
+        ensures { self.new ≡ self.old }
+    {
+        self.waiters.add(wait, thread)
+    }
+
+    // Forgets a wait.
+    fn forget(&mut self, wait: u64)
+        ensures { self.new ≡ self.old }
+    {
+        self.waiters.forget(wait);
     }
 
     // What `Channel::push` does. The threads that are noted here are to be looked at again.
@@ -69,7 +69,7 @@ impl Noted {
         ensures same { OnErr result (self.new ≡ self.old) }
     {
         let count = self.channel.push(bytes, carried)?;
-        wakes.take_over(&mut self.threads);
+        wakes.take_over(&mut self.waiters);
         Ok(count)
     }
 
@@ -87,7 +87,7 @@ impl Noted {
         ensures same { OnErr result ((self.new ≡ self.old) × (out.new ≡ out.old) × (fds.new ≡ fds.old)) }
     {
         let done = self.channel.pull(out, fds)?;
-        wakes.take_over(&mut self.threads);
+        wakes.take_over(&mut self.waiters);
         Ok(done)
     }
 
@@ -100,7 +100,7 @@ impl Noted {
         ensures channel { self.new ≡ shut_at which self.old }
     {
         carries_few(&self.channel);
-        wakes.take_over(&mut self.threads);
+        wakes.take_over(&mut self.waiters);
         self.channel.shut(which, fds)
     }
 
@@ -113,7 +113,7 @@ impl Noted {
         ensures channel { self.new ≡ left_at which self.old }
     {
         carries_few(&self.channel);
-        wakes.take_over(&mut self.threads);
+        wakes.take_over(&mut self.waiters);
         self.channel.leave(which, fds)
     }
 }
@@ -127,11 +127,16 @@ fn carries_few(channel: &Channel)
 
 /// The channels of a kernel by number, which contracts see as a finite map.
 ///
-/// Threads that wait on a channel are noted at it, and once it has changed they are among those to be looked at again
-/// ([`Channels::take_wakes`]). Contracts don't see that.
+/// A thread that waits is noted at the channels that it waits on, and at the processes for whose ends it waits. Once one of them has
+/// changed the thread is among those to be looked at again ([`Channels::take_wakes`]). Contracts don't see that.
 #[derive(Drop)]
 pub struct Channels {
     by_number: NumMap<Noted>,
+
+    // The threads that wait for the ends of processes, by the processes' numbers.
+    by_process: NumMap<Waiters>,
+
+    waits: Waits,
     wakes: Wakes,
     alloc: Global,
 }
@@ -154,6 +159,8 @@ impl Channels {
     {
         Channels {
             by_number: NumMap::new(alloc),
+            by_process: NumMap::new(alloc),
+            waits: Waits::new(alloc),
             wakes: Wakes::new(alloc),
             alloc,
         }
@@ -169,20 +176,96 @@ impl Channels {
         }
     }
 
-    /// Notes a thread at the channel with this number, if there is one and it isn't noted there: once the channel has changed, the thread
-    /// is to be looked at again.
-    pub fn note(&mut self, id: ObjId, thread: ThreadOf)
+    /// Notes a thread that waits, once where a wait names a spot twice: after the spot has changed the thread is to be looked at again.
+    pub fn note(&mut self, spot: Spot, thread: ThreadOf)
+        ensures { self.new ≡ self.old }
+    {
+        let noted = match self.waits.add(&thread, &spot) {
+            Some(wait) => self.note_at(spot, wait, thread),
+            None => false,
+        };
+        if !noted {
+            self.wakes.all = true;
+        }
+    }
+
+    // Notes a wait at a spot. `false` where memory lacked.
+    fn note_at(&mut self, spot: Spot, wait: u64, thread: ThreadOf) -> bool
+        ensures { self.new ≡ self.old }
+    {
+        match spot {
+            Spot::Channel(id) => self.note_at_channel(id, wait, thread),
+            Spot::Process(pid) => self.note_at_process(pid, wait, thread),
+        }
+    }
+
+    // Notes a wait at a channel, if there is one with this number.
+    fn note_at_channel(&mut self, id: ObjId, wait: u64, thread: ThreadOf) -> bool
         ensures { self.new ≡ self.old }
     {
         if !self.by_number.contains(id.0) {
-            return;
+            return true;
         }
         let noted = self.by_number.get_mut(id.0);
-        if noted.has(&thread) {
+        noted.note(wait, thread)
+    }
+
+    // Notes a wait at a process.
+    fn note_at_process(&mut self, pid: Pid, wait: u64, thread: ThreadOf) -> bool
+        ensures { self.new ≡ self.old }
+    {
+        let key = u64::from(pid.0);
+        if self.by_process.contains(key) {
+            return self.by_process.get_mut(key).add(wait, thread);
+        }
+        let mut waiters = Waiters::new(self.alloc);
+        waiters.add(wait, thread) && self.by_process.insert(key, waiters).is_ok()
+    }
+
+    /// Notes a thread nowhere any more, since it has ended its wait.
+    pub fn forget(&mut self, thread: &ThreadOf)
+        ensures { self.new ≡ self.old }
+    {
+        let Some(wait) = self.waits.take(thread) else {
+            return;
+        };
+        for spot in &wait.spots {
+            self.forget_at(*spot, wait.number);
+        }
+    }
+
+    // Forgets a wait at a spot.
+    fn forget_at(&mut self, spot: Spot, wait: u64)
+        ensures { self.new ≡ self.old }
+    {
+        match spot {
+            Spot::Channel(id) => self.forget_at_channel(id, wait),
+            Spot::Process(pid) => self.forget_at_process(pid, wait),
+        }
+    }
+
+    // Forgets a wait at a channel.
+    fn forget_at_channel(&mut self, id: ObjId, wait: u64)
+        ensures { self.new ≡ self.old }
+    {
+        if self.by_number.contains(id.0) {
+            let noted = self.by_number.get_mut(id.0);
+            noted.forget(wait);
+        }
+    }
+
+    // Forgets a wait at a process.
+    fn forget_at_process(&mut self, pid: Pid, wait: u64)
+        ensures { self.new ≡ self.old }
+    {
+        let key = u64::from(pid.0);
+        if !self.by_process.contains(key) {
             return;
         }
-        if noted.threads.push_back(thread).is_err() {
-            self.wakes.all = true;
+        let waiters = self.by_process.get_mut(key);
+        waiters.forget(wait);
+        if waiters.is_empty() {
+            self.by_process.remove(key);
         }
     }
 
@@ -190,7 +273,17 @@ impl Channels {
     pub fn wake(&mut self, thread: ThreadOf)
         ensures { self.new ≡ self.old }
     {
+        self.forget(&thread);
         self.wakes.add(thread);
+    }
+
+    /// Notes that the threads are to be looked at again that wait for the end of a process, since it has ended.
+    pub fn wake_at_end(&mut self, pid: Pid)
+        ensures { self.new ≡ self.old }
+    {
+        if let Some(mut waiters) = self.by_process.remove(u64::from(pid.0)) {
+            self.wakes.take_over(&mut waiters);
+        }
     }
 
     /// Whether some thread is to be looked at again.
@@ -221,7 +314,7 @@ impl Channels {
         ensures { self.new ≡ map.remove self.old id }
     {
         if let Some(mut noted) = self.by_number.remove(id.0) {
-            self.wakes.take_over(&mut noted.threads);
+            self.wakes.take_over(&mut noted.waiters);
         }
     }
 

@@ -1,14 +1,15 @@
 //! The kernel's channels: what calls on their ends send, receive and shut, what is made with a pair of ends and ends with one, and which
-//! threads wait on a channel.
+//! threads wait on a channel, or for the end of a process.
 //!
 //! [`Channels`] has them by number, and contracts see a finite map. `specs/Calls.antt` says what a call leaves of it, of a process's
 //! descriptors, and of the counts of what is held: each descriptor that waits in a channel holds its open.
 #![tactic(auto)]
 
 pub use calls::{on_end, on_socket};
-pub use kept::{Channels, ThreadOf};
+pub use kept::Channels;
 pub use leaving::leave;
 pub use pairs::{Pair, PairKind, put_pair};
+pub use waiters::{Spot, ThreadOf};
 pub use waits::{end_waits, socket_waits, waited_on};
 pub use wakes::Wakes;
 
@@ -21,5 +22,6 @@ mod pairs;
 mod receiving;
 mod sending;
 mod shutting;
+mod waiters;
 mod waits;
 mod wakes;

@@ -1,13 +1,13 @@
 //! Which threads are to be looked at again.
-use crate::kept::ThreadOf;
+use crate::waiters::{ThreadOf, Waiters};
 use std::alloc::Global;
 use std::collections::VecDeque;
 
-/// The threads that waited on channels which have changed since. No contract rests on them: a thread that is ready and isn't among
+/// The threads that waited at spots which have changed since. No contract rests on them: a thread that is ready and isn't among
 /// these is found where all others wait.
 #[derive(Drop)]
 pub struct Wakes {
-    /// They, in the order in which they began to wait on a channel.
+    /// They, in the order in which they began to wait at a spot.
     pub threads: VecDeque<ThreadOf, Global>,
     /// Whether memory lacked to note one, so that all that wait are to be looked at.
     pub all: bool,
@@ -27,10 +27,10 @@ impl Wakes {
         self.threads.is_empty() && !self.all
     }
 
-    // Takes over the threads that waited on a channel.
-    pub(crate) fn take_over(&mut self, waiting: &mut VecDeque<ThreadOf, Global>) {
-        while let Some(thread) = waiting.pop_front() {
-            self.add(thread);
+    // Takes over the threads that waited at a spot.
+    pub(crate) fn take_over(&mut self, waiters: &mut Waiters) {
+        while let Some(waiter) = waiters.queue.pop_front() {
+            self.add(waiter.thread);
         }
     }
 

@@ -205,12 +205,13 @@ module _ (launch : Launch) (begins : MayBegin launch.tree launch.grants) (v : Pa
 
   pub acted_tells : (call : Call) (guest : Guest) (after : List Entry) (result : Acted) → IsActedOn launch log v.pid t turns call guest after result
       → IsActed launch v t turns call guest (now after) result
+  unfolding added_call
   acted_tells call guest after acted.Runs on = (added_call call after on.0, on.1, keeps_call call after t on.0 on.2)
   acted_tells call guest after (acted.Starts u) on = (added_call call after on.0, on.1, starts_call call after u on.0 on.2)
   acted_tells call guest after acted.Parks on = (added_call call after on.0, on.1, keeps_call call after t on.0 on.2)
   acted_tells call guest after acted.Leaves on = (added_call call after on.0, on.1, keeps_call call after t on.0 on.2)
   acted_tells call guest after acted.Begins on = (added_call call after on.0, on.1, on.2)
-  acted_tells call guest after acted.Lost on = added_call call after on
+  acted_tells call guest after acted.Lost on = (added_call call after on.0, on.1)
   acted_tells call guest after acted.Ends on = (added_call call after on.0, on.1)
   acted_tells call guest after acted.Gone on = (looked after on.0, still after (λ h. ¬ IsLiveIn (world launch h) v.pid) on.0 on.1)
   acted_tells call guest after acted.NoMemory on = (looked after on.0, still after (λ h. IsLiveIn (world launch h) v.pid) on.0 on.1)
@@ -267,7 +268,7 @@ module _ (launch : Launch) (begins : MayBegin launch.tree launch.grants) (v : Pa
   acted_seen call guest after acted.Parks tells = tells.0.added.seen
   acted_seen call guest after acted.Leaves tells = tells.0.added.seen
   acted_seen call guest after acted.Begins tells = tells.0.added.seen
-  acted_seen call guest after acted.Lost tells = tells.added.seen
+  acted_seen call guest after acted.Lost tells = tells.0.added.seen
   acted_seen call guest after acted.Ends tells = tells.0.added.seen
   acted_seen call guest after acted.Gone tells = tells.0.seen
   acted_seen call guest after acted.NoMemory tells = tells.0.seen

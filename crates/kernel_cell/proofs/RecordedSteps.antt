@@ -8,7 +8,7 @@
 --     fits_end, recorded_end, stopped_done      an end from outside
 --     fits_jump, recorded_jump, appends_jump, busy_there, stalled_there      an idle jump
 use Rattle.std.proofs.Common.{◌≡◌, ◌≢◌, inl, inr, ◌+◌, ◌-◌, ◌^◌, ◌<◌, ◌≤◌, ℕ, Bool, true, false, List, [], ◌∷◌, ◌++◌, length, Option, None, Some, IsSome, IsTrue, ◌↔◌, refl, sym, ap, subst, ◌∙◌, arith}
-use Rattle.std.specs.Prelude.{Result, Ok, Err, OnOk, is_ok}
+use Rattle.std.specs.Prelude.{Result, Ok, Err, OnErr, OnOk, is_ok}
 use Rattle.std.proofs.lemmas.Bool.Decides.{eqb_tells}
 use Rattle.std.specs.FinMap.{get}
 use Rattle.abi_types.specs.declared.reply.Answer.{Answer}
@@ -363,12 +363,12 @@ module _ (launch : Launch) (all : Bool) (log : List Entry) (before : State) (con
 
         -- where there was no memory for a program, its entry came
         pub acted_or_lost : {X E : Type 0} (guest' : Guest) (begun : Result X E) → OnOk begun (guest' ≡ answered_guest p guest t call given)
-            → (result : Acted) (lives : Bool) (end : CallEnd) (next : ℕ) → result ≡ unless_lost (is_ok begun) (acted_so lives end next)
+            → OnErr begun (ends_others call given ≡ true) → (result : Acted) (lives : Bool) (end : CallEnd) (next : ℕ) → result ≡ unless_lost (is_ok begun) (acted_so lives end next)
             → end ≡ call_end call given → next ≡ next_number before p → (IsTrue lives ↔ (get kernel.statuses p ≡ Some Live))
             → IsActedOn launch log p t turns call guest' after result
-        acted_or_lost guest' (Ok done) is result lives end next so same number on = acted_there guest' is result lives end next so same number on
-        acted_or_lost guest' (Err lack) is result lives end next so same number on =
-            subst (IsActedOn launch log p t turns call guest' after) (sym so) came_call
+        acted_or_lost guest' (Ok done) is begins result lives end next so same number on = acted_there guest' is result lives end next so same number on
+        acted_or_lost guest' (Err lack) is begins result lives end next so same number on =
+            subst (IsActedOn launch log p t turns call guest' after) (sym so) (came_call, ap (ends_others call) came_given ∙ begins)
 
   -- ---- a wake
 

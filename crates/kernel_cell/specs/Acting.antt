@@ -218,7 +218,7 @@ IsActed launch v t turns call guest w acted.Leaves =
     AddedCall launch v t turns call w × HasLeft launch w.seen v.pid t guest × KeepsBut launch v.seen w.seen v.pid t
 IsActed launch v t turns call guest w acted.Begins =
     AddedCall launch v t turns call w × GoesOn launch w.seen v.pid t guest × IsAlone launch w.seen v.pid t
-IsActed launch v t turns call guest w acted.Lost = AddedCall launch v t turns call w
+IsActed launch v t turns call guest w acted.Lost = (added : AddedCall launch v t turns call w) × (ends_others call added.given ≡ true)
 IsActed launch v t turns call guest w acted.Ends = AddedCall launch v t turns call w × IsDead launch w.seen v.pid
 IsActed launch v t turns call guest w acted.Gone = Looked launch v w × IsDead launch w.seen v.pid
 IsActed launch v t turns call guest w acted.NoMemory = Looked launch v w × IsLiveIn (world launch w.seen) v.pid
@@ -277,7 +277,7 @@ IsActedOn launch log p t turns call guest after acted.Leaves =
     AppendsCall launch log p t turns call after × HasLeft launch after p t guest × KeepsBut launch log after p t
 IsActedOn launch log p t turns call guest after acted.Begins =
     AppendsCall launch log p t turns call after × GoesOn launch after p t guest × IsAlone launch after p t
-IsActedOn launch log p t turns call guest after acted.Lost = AppendsCall launch log p t turns call after
+IsActedOn launch log p t turns call guest after acted.Lost = (came : AppendsCall launch log p t turns call after) × (ends_others call came.given ≡ true)
 IsActedOn launch log p t turns call guest after acted.Ends = AppendsCall launch log p t turns call after × IsDead launch after p
 IsActedOn launch log p t turns call guest after acted.Gone = (after ≡ log) × IsDead launch log p
 IsActedOn launch log p t turns call guest after acted.NoMemory = (after ≡ log) × IsLiveIn (world launch log) p

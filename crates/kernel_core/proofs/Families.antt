@@ -6,12 +6,10 @@
 --     change_replaces, change_takes_memory      a number that is replaced is there;  memory may run out for a new number
 --     all_named      where a call isn't refused each descriptor that it names is there
 --     on_err_both, on_err_all      what follows where there is an error
-use Rattle.std.proofs.Common.{◌≡◌, ℕ, Bool, true, false, cond, List, [], ◌∷◌, Option, None, Some, Result, Ok, Err, OnErr, refl, sym, ap, subst}
+use Rattle.std.proofs.Common.{◌≡◌, ℕ, Bool, true, false, cond, List, [], Option, None, Some, Result, Ok, Err, OnErr, refl, sym, ap, subst}
 use Rattle.abi_base.specs.declared.errno.Errno.{Errno}
 use Rattle.abi_base.specs.declared.errno.Errno.TheVariants.{Badf, Nosys, Success}
 use Rattle.abi_structures.specs.declared.events.Subscription.{Subscription}
-use Rattle.abi_structures.specs.declared.events.What.{What}
-use Rattle.abi_structures.specs.declared.events.What.TheVariants.{Clock}
 use Rattle.abi_structures.specs.declared.structures.ThreadAttr.{ThreadAttr}
 use Rattle.abi_types.specs.Families.{HasFile, IsOf, answer_of, call_of_change, call_of_entry, call_of_file, call_of_offset, call_of_open, call_of_socket, fd_of_file, fd_of_offset, fds_of_entry, is_anonymous, is_unbuilt, zeros_of}
 use Rattle.abi_types.specs.declared.call.Call.{Call}
@@ -37,20 +35,19 @@ use Rattle.kernel_model.specs.Calls.{meaning_of, named, refusal, takes_memory}
 use Rattle.kernel_model.specs.Families.EntryCalls.{entry_fds}
 use Rattle.kernel_model.specs.Families.FileCalls.{file_fd}
 use Rattle.kernel_model.specs.Families.MemoryCalls.{map_zeros, placed}
-use Rattle.kernel_model.specs.Families.WaitCalls.{lone_poll}
 use Rattle.kernel_model.specs.Laws.{HasAll}
 use Rattle.kernel_model.specs.Meaning.{Meaning}
 use Rattle.kernel_model.specs.Need.{some_absent}
-use Rattle.kernel_model.specs.Outcome.{IsSuccess, replies}
+use Rattle.kernel_model.specs.Outcome.{IsSuccess, Outcome, replies}
 use Rattle.kernel_model.specs.Reply.{refused}
 use Rattle.kernel_model.specs.State.{State, Table}
 use Rattle.kernel_model.specs.View.{View, whole}
 use Rattle.kernel_model.proofs.Lacks.{all_present}
 use Rattle.kernel_model.proofs.Tests.{none_is_no, same_some}
-use Rattle.kernel_model.proofs.WaitCalls.{poll_holds}
+use Rattle.kernel_model.proofs.Polls.{poll_holds}
 use Rattle.kernel_parts.specs.Changes.{HasReplaced, IsDup, change_outcome}
-use Rattle.kernel_parts.specs.Polls.{poll_outcome}
-use Rattle.kernel_parts.proofs.Polling.{poll_reads}
+use Rattle.poll_set.specs.Polls.{poll_outcome, sight}
+use Rattle.poll_set.proofs.PollReads.{poll_reads, poll_takes_memory}
 use Rattle.kernel_core.proofs.Changes.{put_is}
 
 -- ---- the call of a view
@@ -223,24 +220,24 @@ unbuilt_does other constants v who table is = absurd (cc)
 
 -- ---- polls
 
+-- what a poll comes to in a state
+abbrev pub poll_in : Constants → State → Who → Table → List Subscription → Outcome
+poll_in constants S who table subscriptions = poll_outcome constants S.opens S.chans S.statuses S.clock table who.since subscriptions
+
 pub poll_does : (constants : Constants) (S : State) (who : Who) (table : Table) (subscriptions : List Subscription)
-    → (meaning_of (call.Poll subscriptions)).effect constants (whole S) who table ≡ poll_outcome constants who.since S.clock subscriptions
-poll_does constants S who table subscriptions = poll_reads constants (whole S) who table subscriptions
+    → (meaning_of (call.Poll subscriptions)).effect constants (whole S) who table ≡ poll_in constants S who table subscriptions
+poll_does constants S who table subscriptions = poll_reads S constants who table subscriptions
 
-pub poll_sets_nothing : (constants : Constants) (since now : ℕ) (subscriptions : List Subscription) → (poll_outcome constants since now subscriptions).updates ≡ []
-poll_sets_nothing constants since now subscriptions = poll_holds (λ o. o.updates ≡ []) refl (λ userdata. refl) refl subscriptions constants _ _ _
+pub poll_sets_nothing : (constants : Constants) (S : State) (who : Who) (table : Table) (subscriptions : List Subscription)
+    → (poll_in constants S who table subscriptions).updates ≡ []
+poll_sets_nothing constants S who table subscriptions =
+    poll_holds (λ o. o.updates ≡ []) refl (λ event more. refl) refl subscriptions constants (sight S.opens S.chans S.statuses S.clock)
+    (record { pid = 0; tid = 0; since = who.since }) table
 
-lone_takes : (constants : Constants) (v : View) (who : Who) (table : Table) (userdata : ℕ) (what : What)
-    → IsSuccess ((lone_poll userdata what).effect constants v who table).answer → (lone_poll userdata what).takes_memory ≡ true
-lone_takes constants v who table userdata (Clock clock timeout precision flags) done = refl
-lone_takes constants v who table userdata what done = absurd (cc)
-
--- one that isn't built yet doesn't succeed
-pub poll_takes_memory : (constants : Constants) (since now : ℕ) (subscriptions : List Subscription) → IsSuccess (poll_outcome constants since now subscriptions).answer
-    → takes_memory (call.Poll subscriptions) ≡ true
-poll_takes_memory constants since now [] done = absurd (cc)
-poll_takes_memory constants since now (subscription ∷ []) done = lone_takes constants _ _ _ subscription.userdata subscription.what done
-poll_takes_memory constants since now (first ∷ second ∷ rest) done = absurd (cc)
+pub poll_may_lack : (constants : Constants) (S : State) (who : Who) (table : Table) (subscriptions : List Subscription)
+    → IsSuccess (poll_in constants S who table subscriptions).answer → takes_memory (call.Poll subscriptions) ≡ true
+poll_may_lack constants S who table subscriptions done =
+    poll_takes_memory subscriptions constants (sight S.opens S.chans S.statuses S.clock) (record { pid = 0; tid = 0; since = who.since }) table done
 
 -- ---- refusals
 

@@ -6,7 +6,9 @@
 --     may_put, plan_unheld      it may be put, and nothing holds its open yet
 --     put_is, fork_valid, fork_kept      the state with it
 --     kept_again      the state where it couldn't be put
---     fork_is, fork_none      what the call comes to;  and where it makes none
+--     fork_is      what the call comes to
+--     MakesNone, fork_none, fork_fails      where it makes no child, it tells of none and is no success
+--     fork_succeeds      and else it is one
 use Rattle.std.proofs.Common.{◌≡◌, ◌≢◌, inl, inr, ℕ, ◌+◌, ◌^◌, ◌<◌, ◌==◌, ◌&&◌, ◌||◌, nat_le, nat_lt, Bool, true, false, cond, Option, None, Some, IsSome, is_some, refl, sym, ap, subst, ◌∙◌, arith}
 use Rattle.std.proofs.lemmas.Bool.{eq-eqb}
 use Rattle.std.proofs.lemmas.Bool.Decides.{eqb_tells}
@@ -37,19 +39,19 @@ use Rattle.kernel_model.specs.ChildLaws.{IsUnmade}
 use Rattle.kernel_model.specs.Families.DescriptorCalls.{lowest_free}
 use Rattle.kernel_model.specs.Families.ForkCalls.{can_fork, child_descriptor, child_kind, child_number, child_object, child_open, child_process, fork_at, fork_if, fork_updates, forked_reply, least_turns}
 use Rattle.kernel_model.specs.Families.Numbers.{can_number, made_more}
-use Rattle.kernel_model.specs.Outcome.{Outcome, replies}
-use Rattle.kernel_model.specs.OwnChanges.{may_bear, with_next_child}
+use Rattle.kernel_model.specs.Outcome.{IsSuccess, Outcome, replies}
+use Rattle.kernel_model.specs.OwnChanges.{is_success, may_bear, with_next_child}
 use Rattle.kernel_model.specs.Reply.{refused}
 use Rattle.kernel_model.specs.Release.{carriers, count_in, holders, names_open}
 use Rattle.kernel_model.specs.State.{ProcessState, State, Table, counts_in, put_all, tree_of}
-use Rattle.kernel_model.specs.Step.{IsStep}
+use Rattle.kernel_model.specs.Step.{IsStep, step_answer}
 use Rattle.kernel_model.specs.Threads.{child_told}
 use Rattle.kernel_model.specs.Valid.{IsNamed, IsNearlyValid, IsValid}
 use Rattle.kernel_model.proofs.Births.{CanFork, child_apart, fork_holds, may_is}
 use Rattle.kernel_model.proofs.ChildLaws.{child_is_unmade}
 use Rattle.kernel_model.proofs.ForkCalls.{forks_valid}
 use Rattle.kernel_model.proofs.ObjectNumbers.{numbers_fit}
-use Rattle.kernel_model.proofs.Outcomes.{outcome_by_cases}
+use Rattle.kernel_model.proofs.Outcomes.{outcome_by_cases, outcome_of_table}
 use Rattle.kernel_model.proofs.Tests.{none_is_no, not_true, same_some}
 use Rattle.kernel_parts.proofs.Lowest.{lowest_is}
 use Rattle.process_calls.specs.Forks.{ChildIsPut, IsOpenOf, IsPlan, MayPut}
@@ -318,9 +320,13 @@ refusal_tells left (Some _) reply is = absurd (none_is_no reply is)
 can_was : (left p t : ℕ) (own : ProcessState) → CanFork left p t own → can_fork left p t own ≡ true
 can_was left p t _ can = λ i. can.turns i && (can.bears i && (can.some i && can.number i))
 
-pub fork_none : (constants : Constants) (S : State) (who : Who) (left : ℕ) (given : Answer) (after : State)
-    → ((table : Table) (own : ProcessState) → get S.tables who.pid ≡ Some table → get S.processes who.pid ≡ Some own
-    → IsSome (lowest_free table) → can_fork left who.pid who.tid own ≡ true → ⊥)
+-- no child can be made: it would take a process that has a number free for the descriptor, and a thread that can make one
+abbrev pub MakesNone : State → Who → ℕ → Type 0
+MakesNone S who left =
+    (table : Table) (own : ProcessState) → get S.tables who.pid ≡ Some table → get S.processes who.pid ≡ Some own
+    → IsSome (lowest_free table) → can_fork left who.pid who.tid own ≡ true → ⊥
+
+pub fork_none : (constants : Constants) (S : State) (who : Who) (left : ℕ) (given : Answer) (after : State) → MakesNone S who left
     → IsStep constants S who (call.ProcFork left) given after → child_told (call.ProcFork left) given ≡ None
 fork_none constants S who left given after cannot (inl done) =
     ap (child_told (call.ProcFork left)) done.0
@@ -329,3 +335,28 @@ fork_none constants S who left given after cannot (inl done) =
     fork_holds left who.pid who.tid (get S.processes who.pid) table (lowest_free table) (TellsNone left) (λ errno here other. refl)
     (λ fd own free mine can. absurd (cannot table own there mine (ap is_some free) (can_was left who.pid who.tid own can))))
 fork_none constants S who left given after cannot (inr lacking) = ap (child_told (call.ProcFork left)) lacking.1
+
+-- and its answer is a success exactly where one can be made
+abbrev Fails : Outcome → Type 0
+Fails o = IsSuccess o.answer → ⊥
+
+refusal_fails : (left : ℕ) (t : Option Table) (reply : Reply) → refusal_of (call.ProcFork left) t ≡ Some reply → Fails (replies reply)
+refusal_fails left None reply is = λ done. not_true (ap (λ (r : Reply). is_success r.errno) (same_some (refused Badf) reply is) ∙ ap is_success done)
+refusal_fails left (Some _) reply is = absurd (none_is_no reply is)
+
+pub fork_fails : (constants : Constants) (S : State) (who : Who) (left : ℕ) → MakesNone S who left
+    → IsSuccess (step_answer constants S who (call.ProcFork left)) → ⊥
+fork_fails constants S who left cannot =
+    outcome_by_cases Fails constants S who (call.ProcFork left) (refusal_fails left (get S.tables who.pid))
+    (λ table there _.
+    fork_holds left who.pid who.tid (get S.processes who.pid) table (lowest_free table) Fails (λ errno here other done. not_true (sym other ∙ ap is_success done))
+    (λ fd own free mine can. absurd (cannot table own there mine (ap is_some free) (can_was left who.pid who.tid own can))))
+
+pub fork_succeeds : (constants : Constants) (S : State) (who : Who) (left : ℕ) (table : Table) (own : ProcessState) (fd : ℕ)
+    → get S.tables who.pid ≡ Some table → get S.processes who.pid ≡ Some own → lowest_free table ≡ Some fd → can_fork left who.pid who.tid own ≡ true
+    → IsSuccess (step_answer constants S who (call.ProcFork left))
+fork_succeeds constants S who left table own fd there mine free can =
+    subst (λ (o : Outcome). IsSuccess o.answer)
+    (sym (outcome_of_table constants S who (call.ProcFork left) table there ∙ ap (λ x. fork_at left who.pid who.tid x table (lowest_free table)) mine
+    ∙ ap (fork_at left who.pid who.tid (Some own) table) free ∙ ap (λ b. fork_if b who.pid who.tid own table fd) can))
+    refl

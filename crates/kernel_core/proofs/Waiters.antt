@@ -36,20 +36,20 @@ use Rattle.kernel_core.specs.Waiting.{ThreadsDo}
 -- ---- a thread that is ready
 
 pub ready_by : (constants : Constants) (S : State) (p t : ℕ) (call : Call) (since : ℕ) (until : Option ℕ) → thread_of S p t ≡ Some (Waits call since until)
-    → is_over constants S.opens S.chans S.clock (get S.tables p) since call ≡ is_ready constants S p t
+    → is_over constants S.opens S.chans S.statuses S.clock (get S.tables p) since call ≡ is_ready constants S p t
 ready_by constants S p t call since until there =
     over_is constants S (record { pid = p; tid = t; since = since }) call ∙ ap (is_ready_as constants S p t) (sym there)
 
 -- by what was looked at
-pub looked_at : {a constants : Constants} {k opens : FinMap nat_cmp OpenKind} {x chans : FinMap nat_cmp Channel} {n now : ℕ} → a ≡ constants → k ≡ opens
-    → x ≡ chans → n ≡ now → (table : Option Table) (since : ℕ) (call : Call) → is_over a k x n table since call ≡ is_over constants opens chans now table since call
-looked_at one two three four table since call = λ i. is_over (one i) (two i) (three i) (four i) table since call
+pub looked_at : {a constants : Constants} {k opens : FinMap nat_cmp OpenKind} {x chans : FinMap nat_cmp Channel} {u statuses : FinMap nat_cmp Status} {n now : ℕ}
+    → a ≡ constants → k ≡ opens → x ≡ chans → u ≡ statuses → n ≡ now → (table : Option Table) (since : ℕ) (call : Call) → is_over a k x u n table since call ≡ is_over constants opens chans statuses now table since call
+looked_at one two three four five table since call = λ i. is_over (one i) (two i) (three i) (four i) (five i) table since call
 
-pub active_at : {a constants : Constants} {k opens : FinMap nat_cmp OpenKind} {x chans : FinMap nat_cmp Channel} {n now : ℕ} → a ≡ constants → k ≡ opens
-    → x ≡ chans → n ≡ now → (table : Option Table) (threads : Threads) (result : Activity) → IsActivity (activity_at a k x n table threads) (λ _. ⊤) result
-    → IsActivity (activity_at constants opens chans now table threads) (λ _. ⊤) result
-active_at one two three four table threads result is =
-    subst (λ (f : ℕ → Activity). IsActivity f (λ _. ⊤) result) (λ i. activity_at (one i) (two i) (three i) (four i) table threads) is
+pub active_at : {a constants : Constants} {k opens : FinMap nat_cmp OpenKind} {x chans : FinMap nat_cmp Channel} {u statuses : FinMap nat_cmp Status} {n now : ℕ}
+    → a ≡ constants → k ≡ opens → x ≡ chans → u ≡ statuses → n ≡ now → (table : Option Table) (threads : Threads) (result : Activity) → IsActivity (activity_at a k x u n table threads) (λ _. ⊤) result
+    → IsActivity (activity_at constants opens chans statuses now table threads) (λ _. ⊤) result
+active_at one two three four five table threads result is =
+    subst (λ (f : ℕ → Activity). IsActivity f (λ _. ⊤) result) (λ i. activity_at (one i) (two i) (three i) (four i) (five i) table threads) is
 
 -- ---- a thread is of a live process
 
@@ -80,49 +80,49 @@ same_until a b same = ap until_in same
 
 module _ (constants : Constants) (S : State) where
   abbrev pub does : ℕ × ℕ → Activity
-  does i = activity_by constants S.opens S.chans S.clock (get S.tables i.0) (thread_of S i.0 i.1)
+  does i = activity_by constants S.opens S.chans S.statuses S.clock (get S.tables i.0) (thread_of S i.0 i.1)
 
   over_none : (b : Bool) (until : Option ℕ) → by_over b until ≡ NoThread → ⊥
   over_none true until e = cc
   over_none false until e = cc
 
-  none_by : (table : Option _) (o : Option Thread) → activity_by constants S.opens S.chans S.clock table o ≡ NoThread → o ≡ None
+  none_by : (table : Option _) (o : Option Thread) → activity_by constants S.opens S.chans S.statuses S.clock table o ≡ NoThread → o ≡ None
   none_by table None is = refl
   none_by table (Some Runnable) is = absurd (cc)
-  none_by table (Some (Waits call since until)) is = absurd (over_none (is_over constants S.opens S.chans S.clock table since call) until is)
+  none_by table (Some (Waits call since until)) is = absurd (over_none (is_over constants S.opens S.chans S.statuses S.clock table since call) until is)
 
   over_busy : (b : Bool) (until : Option ℕ) → by_over b until ≡ Busy → b ≡ true
   over_busy true until e = refl
   over_busy false until e = absurd (cc)
 
-  busy_by : (p t : ℕ) (o : Option Thread) → thread_of S p t ≡ o → activity_by constants S.opens S.chans S.clock (get S.tables p) o ≡ Busy
+  busy_by : (p t : ℕ) (o : Option Thread) → thread_of S p t ≡ o → activity_by constants S.opens S.chans S.statuses S.clock (get S.tables p) o ≡ Busy
       → (thread_of S p t ≡ Some Runnable) ⊎ (is_ready constants S p t ≡ true)
   busy_by p t None there is = absurd (cc)
   busy_by p t (Some Runnable) there is = inl there
   busy_by p t (Some (Waits call since until)) there is =
-      inr (sym (ready_by constants S p t call since until there) ∙ over_busy (is_over constants S.opens S.chans S.clock (get S.tables p) since call) until is)
+      inr (sym (ready_by constants S p t call since until there) ∙ over_busy (is_over constants S.opens S.chans S.statuses S.clock (get S.tables p) since call) until is)
 
   -- one that waits until a moment
   over_waits : (b : Bool) (until moment : Option ℕ) → by_over b until ≡ Waiting moment → soon until ≡ moment
   over_waits true until moment e = absurd (cc)
   over_waits false until moment e = same_until (soon until) moment e
 
-  waits_by : (p t : ℕ) (o : Option Thread) (until : Option ℕ) → activity_by constants S.opens S.chans S.clock (get S.tables p) o ≡ Waiting until
+  waits_by : (p t : ℕ) (o : Option Thread) (until : Option ℕ) → activity_by constants S.opens S.chans S.statuses S.clock (get S.tables p) o ≡ Waiting until
       → (thread : Thread) × (o ≡ Some thread) × (until_of thread ≡ until)
   waits_by p t None until is = absurd (cc)
   waits_by p t (Some Runnable) until is = absurd (cc)
-  waits_by p t (Some (Waits call since had)) until is = (Waits call since had, refl, over_waits (is_over constants S.opens S.chans S.clock (get S.tables p) since call) had until is)
+  waits_by p t (Some (Waits call since had)) until is = (Waits call since had, refl, over_waits (is_over constants S.opens S.chans S.statuses S.clock (get S.tables p) since call) had until is)
 
   -- and none before it
   over_later : (b : Bool) (had until : Option ℕ) → WaitsLater until (by_over b had) → (b ≡ false) × IsNotEarlier until (soon had)
   over_later true had until later = absurd later
   over_later false had until later = (refl, later)
 
-  later_by : (p t : ℕ) (thread : Thread) (until : Option ℕ) → thread_of S p t ≡ Some thread → WaitsLater until (activity_of constants S.opens S.chans S.clock (get S.tables p) thread)
+  later_by : (p t : ℕ) (thread : Thread) (until : Option ℕ) → thread_of S p t ≡ Some thread → WaitsLater until (activity_of constants S.opens S.chans S.statuses S.clock (get S.tables p) thread)
       → IsParked thread × (is_ready constants S p t ≡ false) × IsNotEarlier until (until_of thread)
   later_by p t Runnable until there later = absurd later
   later_by p t (Waits call since had) until there later =
-      let waits = over_later (is_over constants S.opens S.chans S.clock (get S.tables p) since call) had until later in
+      let waits = over_later (is_over constants S.opens S.chans S.statuses S.clock (get S.tables p) since call) had until later in
       (tt, sym (ready_by constants S p t call since had there) ∙ waits.0, waits.1)
 
   -- ---- all of them
@@ -135,7 +135,7 @@ module _ (constants : Constants) (S : State) where
     each : (p t : ℕ) (thread : Thread) → HasThread S p t thread
         → IsParked thread × (is_ready constants S p t ≡ false) × IsNotEarlier until (until_of thread)
     each p t thread there =
-        later_by p t thread until there (subst (λ o. WaitsLater until (activity_by constants S.opens S.chans S.clock (get S.tables p) o)) there (is.1 (p, t) tt))
+        later_by p t thread until there (subst (λ o. WaitsLater until (activity_by constants S.opens S.chans S.statuses S.clock (get S.tables p) o)) there (is.1 (p, t) tt))
 
     one : (thread : Thread) × (thread_of S is.0.0.0 is.0.0.1 ≡ Some thread) × (until_of thread ≡ until)
     one = waits_by is.0.0.0 is.0.0.1 (thread_of S is.0.0.0 is.0.0.1) until is.0.2

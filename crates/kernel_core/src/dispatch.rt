@@ -10,7 +10,8 @@ ghost use Rattle.kernel_model.specs.View.{whole};
 
 use crate::kernel::Kernel;
 use abi_types::{Answer, Call, Constants, Errno, Family, Status, Who};
-use kernel_parts::{CLOCK_RESOLUTION, placed, poll};
+use kernel_parts::{CLOCK_RESOLUTION, placed};
+use poll_set::poll;
 use right_rules::{refusal, refused, success};
 use std::alloc::AllocError;
 
@@ -54,13 +55,10 @@ impl Kernel {
             Family::Fork { left } => self.proc_fork(who, left),
             Family::Exec { fd, fds } => self.proc_exec(constants, who, fd, fds),
             Family::Raise { signal } => Ok(Answer::Reply(self.proc_raise(who, signal))),
-            Family::Poll(subscriptions) => poll(
-                self.alloc,
-                constants,
-                who.since,
-                self.clock,
-                subscriptions,
-            ),
+            Family::Poll(subscriptions) => {
+                let around = self.around(constants);
+                poll(self.alloc, around, table, who.since, subscriptions)
+            }
             Family::ClockResolution { .. } => Ok(Answer::Reply(success(CLOCK_RESOLUTION, 0))),
             Family::ClockTime { clock, .. } => {
                 Ok(Answer::Reply(self.clock_time(constants, clock)))

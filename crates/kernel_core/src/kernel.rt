@@ -7,6 +7,7 @@ ghost use Rattle.kernel_core.specs.Waiting.{caller};
 ghost use Rattle.kernel_model.specs.Calls.{named, need};
 ghost use Rattle.kernel_model.specs.Laws.{HasAll, IsFirstLack, IsNotDeniedEarly, IsOfFirstLack, IsOfPath};
 ghost use Rattle.kernel_model.specs.Need.{missing};
+ghost use Rattle.kernel_model.specs.Outcome.{IsSuccess};
 ghost use Rattle.kernel_model.specs.Families.ProcessCalls.{end_updates};
 ghost use Rattle.kernel_model.specs.Release.{release, is_released};
 ghost use Rattle.kernel_model.specs.Reply.{denied};
@@ -18,7 +19,7 @@ ghost use Rattle.abi_types.specs.declared.call.Call.TheVariants as call;
 ghost use Rattle.abi_types.specs.declared.constants.Constants.{Constants};
 ghost use Rattle.abi_types.specs.declared.reply.Answer.{Answer};
 ghost use Rattle.kernel_model.specs.State.{State, put_all, Table, Part, has_part, Agree, thread_of, tree_of, written_to};
-ghost use Rattle.kernel_model.specs.Step.{failed, outside, IsStep, IsUntouched, end_unreleased, end_state};
+ghost use Rattle.kernel_model.specs.Step.{failed, outside, IsStep, IsUntouched, end_unreleased, end_state, step_answer};
 ghost use Rattle.kernel_model.specs.Valid.{IsValid};
 
 use abi_types::{
@@ -29,7 +30,7 @@ use channel_calls::{Channels, Wakes};
 use fd_table::FdTable;
 use file_tree::Tree;
 use kernel_parts::{
-    ProcessState, Terminal, granted, let_go_all, release, single, streams, wake_waiting,
+    ProcessState, Terminal, granted, let_go_all, release, single, streams, wake_at_end,
 };
 use maps::NumMap;
 use object_store::Objects;
@@ -106,7 +107,7 @@ impl Kernel {
         let p = u64::from(pid.0);
         self.statuses.replace(p, status);
         let own = self.processes.get_mut(p);
-        wake_waiting(&mut self.channels, pid, own);
+        wake_at_end(&mut self.channels, pid, own);
         own.end();
         let_go_all(self.tables.get_mut(p), &mut self.objects);
         release(
@@ -168,7 +169,8 @@ impl Kernel {
 
     /// Whether a proc_fork of this thread, whose process has so many turns left, would make a child, unless memory ran out.
     pub fn may_fork(&self, pid: Pid, tid: Tid, left: u64) -> bool
-        ensures { IsFalse result → (constants : Constants) (given : Answer) (after : State) → IsStep constants self.now (caller self.now pid tid) (call.ProcFork left) given after
+        ensures child { (constants : Constants) → IsTrue result ↔ IsSuccess (step_answer constants self.now (caller self.now pid tid) (call.ProcFork left)) }
+        ensures none { IsFalse result → (constants : Constants) (given : Answer) (after : State) → IsStep constants self.now (caller self.now pid tid) (call.ProcFork left) given after
             → child_told (call.ProcFork left) given ≡ None }
     {
         let p = u64::from(pid.0);
@@ -191,7 +193,8 @@ impl Kernel {
         self.end_process(pid, status);
     }
 
-    /// Whether some thread is to be looked at again, since a channel on which it waits has changed.
+    /// Whether some thread is to be looked at again, since a channel on which it waits has changed, or a process for whose end it waits has
+    /// ended.
     pub fn has_wakes(&self) -> bool {
         self.channels.has_wakes()
     }

@@ -17,7 +17,7 @@ use right_rules::refused;
 use std::alloc::AllocError;
 
 // The descriptor of the socket.
-pub(crate) fn socket_fd(call: SocketCall<'_>) -> u32
+fn socket_fd(call: SocketCall<'_>) -> u32
     ensures { result ≡ fd_of_socket call.entry }
 {
     match call {

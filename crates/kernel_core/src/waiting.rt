@@ -11,12 +11,10 @@ ghost use Rattle.kernel_model.specs.Wakes.{is_ready, IsStalled, IsWake, MayJump}
 ghost use Rattle.kernel_parts.specs.Waiting.{kept_in};
 
 use crate::kernel::{Kernel, STEP_TIME};
-use crate::sockets::socket_fd;
-use abi_types::{
-    Answer, Call, Constants, Errno, Family, ObjId, Pid, Reply, Thread, Tid, WakeIn, Who,
-};
-use channel_calls::{ThreadOf, waited_on};
-use kernel_parts::{Activity, Surroundings, deadline_of, is_over, next_number, open_of};
+use abi_types::{Answer, Call, Constants, Errno, Pid, Reply, Thread, Tid, WakeIn, Who};
+use channel_calls::ThreadOf;
+use kernel_parts::{Activity, deadline_of, is_over, next_number, note_wait};
+use poll_set::Surroundings;
 use right_rules::refused;
 use std::alloc::AllocError;
 
@@ -40,45 +38,48 @@ impl Kernel {
         Ok(())
     }
 
-    // The channel on which a thread's call waits, if the thread waits and on one.
-    fn channel_of(&self, pid: Pid, tid: Tid) -> Option<ObjId> {
-        let call = self.kept(pid, tid)?;
-        let fd = match call.family() {
-            Family::Offset(view) => view.fd(),
-            Family::Socket(view) => socket_fd(view),
-            _ => return None,
-        };
-        let (_, kind) = open_of(&self.tables, &self.objects, pid, fd)?;
-        waited_on(&kind, call)
+    // Notes a thread nowhere any more.
+    fn forget(&mut self, pid: Pid, tid: Tid)
+        ensures { self.new ≡ self.old }
+    {
+        self.channels.forget(&ThreadOf { pid, tid });
     }
 
-    // Notes a thread at the channel on which it waits, if it waits on one: once that changes the thread is to be looked at again.
+    // Notes a thread that waits wherever something may come that it waits for, and nowhere else: then it is to be looked at again.
     fn note(&mut self, pid: Pid, tid: Tid)
         ensures { self.new ≡ self.old }
     {
-        if let Some(id) = self.channel_of(pid, tid) {
-            self.channels.note(id, ThreadOf { pid, tid });
+        self.forget(pid, tid);
+        let p = u64::from(pid.0);
+        let (Some(own), Some(table)) = (self.processes.get(p), self.tables.get(p)) else {
+            return;
+        };
+        if let Some(Thread::Waits { call, .. }) = own.thread(tid) {
+            let thread = ThreadOf { pid, tid };
+            note_wait(&mut self.channels, &self.objects, table, &thread, call);
         }
     }
 
     // What calls that wait look at beside their process's descriptors.
-    fn around<'a>(&'a self, constants: &'a Constants) -> Surroundings<'a>
+    pub(crate) fn around<'a>(&'a self, constants: &'a Constants) -> Surroundings<'a>
         ensures constants { result.constants.now ≡ constants.now }
         ensures opens { result.objects.now.kinds ≡ self.now.opens }
         ensures channels { result.channels.now ≡ self.now.chans }
+        ensures statuses { result.statuses.now ≡ self.now.statuses }
         ensures moment { result.now ≡ self.now.clock }
     {
         Surroundings {
             constants,
             objects: &self.objects,
             channels: &self.channels,
+            statuses: &self.statuses,
             now: self.clock,
         }
     }
 
     // Lets a thread run that waits, and gives back the call that it waited in, and when that was made. `None` exactly where the
     // thread doesn't wait; then nothing changes.
-    fn resume(&mut self, pid: Pid, tid: Tid) -> Option<(Call, u64)>
+    fn let_run(&mut self, pid: Pid, tid: Tid) -> Option<(Call, u64)>
         ensures kept { result ≡ kept_in (thread_of self.old pid tid) }
         ensures runs { self.new ≡ with_thread self.old pid tid Thread.Runnable }
     {
@@ -87,6 +88,15 @@ impl Kernel {
             return None;
         }
         self.processes.get_mut(p).resume(tid)
+    }
+
+    // The same of a thread that is noted nowhere any more then.
+    fn resume(&mut self, pid: Pid, tid: Tid) -> Option<(Call, u64)>
+        ensures kept { result ≡ kept_in (thread_of self.old pid tid) }
+        ensures runs { self.new ≡ with_thread self.old pid tid Thread.Runnable }
+    {
+        self.forget(pid, tid);
+        self.let_run(pid, tid)
     }
 
     /// The call that a thread waits in. `None` exactly where there is no such live thread, or it doesn't wait.

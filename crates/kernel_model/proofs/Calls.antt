@@ -25,7 +25,7 @@ use Rattle.kernel_model.proofs.Opening.{file_open_is_proper}
 use Rattle.kernel_model.proofs.PairCalls.{fd_create2_is_proper}
 use Rattle.kernel_model.proofs.SocketCalls.{sock_recv_is_proper, sock_send_is_proper, sock_shutdown_is_proper}
 use Rattle.kernel_model.proofs.StreamCalls.{fd_read_is_proper, fd_seek_is_proper, fd_write_is_proper}
-use Rattle.kernel_model.proofs.WaitCalls.{poll_is_proper}
+use Rattle.kernel_model.proofs.Polls.{poll_is_proper}
 
 pub proper : (call : Call) → IsProper (meaning_of call)
 proper (call.ClockResGet clock) = answering_is_proper [] (success 1000 0) refl (inl refl)

@@ -1,8 +1,9 @@
 -- What proc_fork and proc_exec do.
 --     fork_makes_child      a fork
+--     forks_are_numbered      the numbers of what it makes
 --     made_by_fork, child_is_new, child_runs, child_alone      the child of a step
 --     exec_begins      a proc_exec
-use Rattle.std.proofs.Common.{◌≡◌, ◌≢◌, inl, inr, ℕ, ◌+◌, ◌<◌, ◌≤◌, ◌&&◌, Bool, true, false, cond, List, [], ◌∷◌, Option, Some, None, IsSome, is_some, refl, sym, ap, subst, ◌∙◌, arith}
+use Rattle.std.proofs.Common.{◌≡◌, ◌≢◌, inl, inr, ℕ, zero, suc, ◌+◌, ◌-◌, ◌*◌, ◌^◌, ◌<◌, ◌≤◌, ◌&&◌, Bool, true, false, cond, List, [], ◌∷◌, Option, Some, None, IsSome, is_some, refl, sym, ap, subst, ◌∙◌, arith}
 use Rattle.std.proofs.lemmas.Bool.{eq-eqb, leb-true, lt-ltb}
 use Rattle.std.specs.Prelude.{if◌then◌else◌}
 use Rattle.std.proofs.lemmas.Bool.Decides.{eqb_tells}
@@ -28,7 +29,8 @@ use Rattle.kernel_model.specs.ChildLaws.{IsUnmade}
 use Rattle.kernel_model.specs.Calls.{meaning_of, refusal}
 use Rattle.kernel_model.specs.Families.DescriptorCalls.{lowest_free}
 use Rattle.kernel_model.specs.Families.ForkCalls.{child_descriptor, child_kind, child_number, child_open, child_process, fork_updates, forked_reply, least_turns, listed}
-use Rattle.kernel_model.specs.ForkLaws.{ExecBegins, ForkMakesChild, IsBegun, IsForked, nth_held}
+use Rattle.kernel_model.specs.ForkLaws.{ExecBegins, ForkMakesChild, ForksAreNumbered, IsBegun, IsForked, nth_held}
+use Rattle.kernel_model.specs.Families.Children.{byte_unit}
 use Rattle.kernel_model.specs.Families.Numbers.{made_more}
 use Rattle.kernel_model.specs.OwnChanges.{begun_anew, is_success, next_child, with_next_child}
 use Rattle.kernel_model.specs.Release.{carriers, count_in, ends, holders, names_open, release, without_ended}
@@ -143,6 +145,23 @@ module _ (S : State) (who : Who) (own : ProcessState) (there : get S.processes w
   } where
     few_forks : own.counts.forks < 254
     few_forks = let most : own.counts.forks + 1 ≤ 254 = (may_is own can.bears).2 in omega (arith, most)
+
+unit_is : (depth : ℕ) → depth < 4 → byte_unit depth ≡ 256 ^ (3 - depth)
+unit_is zero few = refl
+unit_is (suc zero) few = refl
+unit_is (suc (suc zero)) few = refl
+unit_is (suc (suc (suc zero))) few = refl
+unit_is (suc (suc (suc (suc depth)))) few = absurd (omega (arith, few))
+
+pub forks_are_numbered : ForksAreNumbered
+forks_are_numbered p t own few = record {
+  number = ap (λ unit. p + (own.counts.forks + 1) * unit) (unit_is own.depth few);
+  child = refl;
+  parent = refl;
+  kind = refl;
+  descriptor = refl;
+  reply = λ fd. refl;
+}
 
 pub fork_makes_child : ForkMakesChild
 fork_makes_child constants S who left reply T valid step success =

@@ -32,7 +32,7 @@ use Rattle.kernel_model.specs.Valid.{IsNearlyValid}
 use Rattle.kernel_model.proofs.FoundFiles.{fd_close_found, fd_dup_found, fd_pread_found, fd_pwrite_found, fd_replace_found, fd_stat_get_found, fd_stat_put_found, file_allocate_found, file_readdir_found, file_readlink_found, file_stat_fget_found, file_stat_fput_found, file_stat_get_found, file_stat_put_found}
 use Rattle.kernel_model.proofs.FoundNames.{file_create_found, file_link_found, file_open_found, file_rename_found, file_symlink_found, file_unlink_found}
 use Rattle.kernel_model.proofs.FoundOpens.{NeverBadf, OnlyWhere}
-use Rattle.kernel_model.proofs.WaitCalls.{poll_holds}
+use Rattle.kernel_model.proofs.Polls.{poll_holds}
 use Rattle.kernel_model.proofs.FoundSockets.{created_found, sock_recv_found, sock_send_found, sock_shutdown_found}
 use Rattle.kernel_model.proofs.FoundStreams.{fd_read_found, fd_seek_found, fd_write_found, mem_map_found}
 use Rattle.kernel_model.proofs.ClockCalls.{drawn_holds}
@@ -79,7 +79,7 @@ module _ (S : State) (nearly : IsNearlyValid S) where
   found (call.MemMap place length prot flags fd offset) = mem_map_found S nearly place length prot flags fd offset
   found (call.Memory number errno) = λ constants who table own all met e. e
   found (call.Poll subscriptions) = λ constants who table own all met.
-      poll_holds (OnlyWhere (IsBadfBefore (call.Poll subscriptions))) (λ e. cc) (λ userdata e. cc) tt subscriptions constants (whole (tick S)) who table
+      poll_holds (OnlyWhere (IsBadfBefore (call.Poll subscriptions))) (λ e. cc) (λ event more e. cc) tt subscriptions constants (whole (tick S)) who table
   found (call.RandomGet length) = λ constants who table own all met.
       drawn_holds (OnlyWhere (IsBadfBefore (call.RandomGet length))) constants who.pid (get S.processes who.pid) length (λ e. cc) (λ x _ e. cc)
   found (call.Refused number errno) = λ constants who table own all met e. e

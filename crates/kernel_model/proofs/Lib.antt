@@ -47,7 +47,7 @@ pub mod NewProcesses
 pub mod ForkCalls
 pub mod ExecCalls
 pub mod Deadlines
-pub mod WaitCalls
+pub mod Polls
 pub mod NewOpens
 pub mod Opened
 pub mod Opening
@@ -73,6 +73,8 @@ pub mod Lacks
 pub mod Refusals
 pub mod Readiness
 pub mod PollTimes
+pub mod PollEvents
+pub mod PollLaws
 pub mod Waking
 pub mod WaitedCalls
 pub mod WakeSights

@@ -73,7 +73,7 @@ use Rattle.kernel_model.proofs.PairCalls.{absent, create_holds, number}
 use Rattle.kernel_model.proofs.SocketCalls.{receive_holds}
 use Rattle.kernel_model.proofs.ThreadCalls.{left_holds, made_holds}
 use Rattle.kernel_model.proofs.Threading.{waits_if_same}
-use Rattle.kernel_model.proofs.WaitCalls.{poll_holds}
+use Rattle.kernel_model.proofs.Polls.{poll_holds}
 use Rattle.kernel_model.proofs.Tests.{none_is_no}
 use Rattle.kernel_model.proofs.Touches.{end_is}
 use Rattle.kernel_model.proofs.TreeUpdates.{all_of_both, change_of_tree, node_of_tree}
@@ -478,7 +478,7 @@ keeps (call.LockUnlock lock word scope) constants S who table nearly = tt
 keeps (call.MemMap place length prot flags fd offset) constants S who table nearly = map_keeps place length prot flags fd offset constants S who table nearly
 keeps (call.Memory number errno) constants S who table nearly = tt
 keeps (call.Poll subscriptions) constants S who table nearly =
-    poll_holds (λ (o : Outcome). AllKeep S o.updates) tt (λ userdata. tt) tt subscriptions constants (whole S) who table
+    poll_holds (λ (o : Outcome). AllKeep S o.updates) tt (λ event more. tt) tt subscriptions constants (whole S) who table
 keeps (call.ProcExec fd bytes fds) constants S who table nearly =
     exec_at_holds constants.key who.pid who.tid (listed table fds) (whole S) (λ (o : Outcome). AllKeep S o.updates) (λ errno here other. tt) (get table fd)
     (λ x node own is program there. (tt, (tt, tt)))

@@ -2,17 +2,21 @@
 --     poll_awaits_clock      what the poll answers
 --     poll_is_ready      when a thread that waits in it is ready
 --     poll_has_deadline      its deadline
+--     come_is, due_where, due_only, not_soon      the moment of a time of a clock, and whether it has come
 use Rattle.std.proofs.Common.{◌≡◌, ◌↔◌, ℕ, ◌+◌, ◌-◌, ◌^◌, ◌==◌, ◌<◌, ◌≤◌, Bool, true, false, not, [], ◌∷◌, Some, None, IsSome, refl, sym, ap, subst, ◌∙◌, arith}
 use Rattle.std.proofs.lemmas.Bool.{lt-ltb, ltb-false, ltb-true}
 use Rattle.std.specs.Prelude.{nat_lt, MatchBool, if◌then◌else◌}
 use Rattle.std.specs.FinMap.{get}
+use Rattle.abi_structures.specs.declared.events.Event.{Event}
+use Rattle.abi_structures.specs.declared.events.EventType.TheVariants as type
 use Rattle.abi_types.specs.declared.constants.Constants.{Constants}
 use Rattle.abi_types.specs.declared.reply.Answer.TheVariants as answer
 use Rattle.abi_types.specs.declared.reply.WordWrites.TheVariants.{Zero}
 use Rattle.abi_types.specs.declared.who.Who.{Who}
 use Rattle.tree_model.specs.Faults.{some_there}
 use Rattle.kernel_model.specs.Deadlines.{is_due, soon}
-use Rattle.kernel_model.specs.Families.WaitCalls.{clock_deadline, clock_event, clock_poll_at, events_reply}
+use Rattle.kernel_model.specs.Families.Polls.{and_event, event_of, events_reply, told_or_waits}
+use Rattle.kernel_model.specs.Families.WaitCalls.{clock_deadline}
 use Rattle.kernel_model.specs.Outcome.{Outcome, is_parked}
 use Rattle.kernel_model.specs.PollLaws.{clock_call, HasCome, HasClockEvent, PollAwaitsClock, PollHasDeadline, PollIsReady}
 use Rattle.kernel_model.specs.State.{State}
@@ -38,13 +42,13 @@ come_by true real epoch since timeout now = shown_by real epoch timeout now
 come_by false real epoch since timeout now = (λ h. h, λ h. h)
 
 -- the time has come from its moment on
-come_is : (constants : Constants) (since clock timeout flags now : ℕ)
+pub come_is : (constants : Constants) (since clock timeout flags now : ℕ)
     → HasCome constants since clock timeout flags now ↔ (clock_deadline constants since clock timeout flags ≤ now)
 come_is constants since clock timeout flags now = come_by (flags == 1) (clock == 3) constants.epoch since timeout now
 
 -- ---- deadlines that count
 
-due_where : (d now : ℕ) → d ≤ now → now < 2 ^ 62 → is_due now (soon (Some d)) ≡ true
+pub due_where : (d now : ℕ) → d ≤ now → now < 2 ^ 62 → is_due now (soon (Some d)) ≡ true
 due_where d now come early =
     let counts : d < 2 ^ 62 = omega (arith, come, early) in ap (is_due now) (soon_kept d counts) ∙ due_at now d come
 
@@ -62,7 +66,7 @@ before_where d now h =
       | false ↦ λ e. absurd (h (ltb-false now d e))
     ] refl
 
-not_soon : (d : ℕ) → soon (Some d) ≡ None → 2 ^ 62 ≤ d
+pub not_soon : (d : ℕ) → soon (Some d) ≡ None → 2 ^ 62 ≤ d
 not_soon d e =
     elim (nat_lt d (2 ^ 62)) as (λ b. nat_lt d (2 ^ 62) ≡ b → (if b then Some d else None) ≡ None → 2 ^ 62 ≤ d) [
       | true ↦ λ l i. absurd (none_is_no d (sym i))
@@ -83,6 +87,12 @@ poll_has_deadline = record {
 }
 
 -- ---- what the poll comes to
+
+abbrev clock_event : ℕ → Event
+clock_event userdata = event_of userdata type.Clock
+
+abbrev clock_poll_at : Bool → ℕ → Outcome
+clock_poll_at due userdata = told_or_waits (and_event (if due then Some (clock_event userdata) else None) [])
 
 done_at : (due : Bool) (userdata : ℕ) → due ≡ true → (clock_poll_at due userdata).answer ≡ answer.Reply (events_reply (clock_event userdata ∷ []))
 done_at due userdata e = ap (λ b. (clock_poll_at b userdata).answer) e
@@ -129,7 +139,7 @@ done_now constants S who userdata clock timeout precision flags there =
     ap (λ o. not (is_parked (outcome_on constants (whole (resumed S who)) who call o).answer)) own.1
     ∙ parked_is (is_due S.clock (soon (Some (clock_deadline constants who.since clock timeout flags)))) userdata
 
-due_only : (d now : ℕ) → is_due now (soon (Some d)) ≡ true → d ≤ now
+pub due_only : (d now : ℕ) → is_due now (soon (Some d)) ≡ true → d ≤ now
 due_only d now due =
     elim (nat_lt now d) as (λ b. nat_lt now d ≡ b → d ≤ now) [
       | true ↦ λ e. absurd (not_true (sym (not_due d now (ltb-true now d e)) ∙ due))

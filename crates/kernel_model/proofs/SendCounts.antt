@@ -8,8 +8,6 @@ use Rattle.std.specs.List.{AllByRecursion}
 use Rattle.abi_base.specs.declared.errno.Errno.{Errno}
 use Rattle.abi_base.specs.declared.errno.Errno.TheVariants.{Badf, Nomem, Success}
 use Rattle.abi_types.specs.Families.{is_anonymous}
-use Rattle.abi_structures.specs.declared.events.What.{What}
-use Rattle.abi_structures.specs.declared.events.What.TheVariants.{Clock}
 use Rattle.abi_types.specs.declared.place.Place.{Place}
 use Rattle.abi_types.specs.declared.reply.Reply.{Reply}
 use Rattle.abi_types.specs.declared.reply.Answer.{Answer}
@@ -35,7 +33,6 @@ use Rattle.kernel_model.specs.Families.NameMaking.{making, making_unless, text_e
 use Rattle.kernel_model.specs.Families.NameMeaning.{NameMeaning}
 use Rattle.kernel_model.specs.Families.OpenMeaning.{at_descriptor}
 use Rattle.kernel_model.specs.Families.StreamCalls.{write_open}
-use Rattle.kernel_model.specs.Families.WaitCalls.{lone_poll}
 use Rattle.kernel_model.specs.Outcome.{Outcome, WhereReply, replies}
 use Rattle.kernel_model.specs.Proper.{CarriesOn, IsCounted, Sender, sends_had, may_send}
 use Rattle.kernel_model.specs.Release.{ends, loses_reader, loses_writer, release}
@@ -50,6 +47,7 @@ use Rattle.kernel_model.proofs.ChannelChanges.{none_more}
 use Rattle.kernel_model.proofs.Channels.{channel_released, was_channel}
 use Rattle.kernel_model.proofs.Outcomes.{outcome_holds}
 use Rattle.kernel_model.proofs.Parts.{put_keeps}
+use Rattle.kernel_model.proofs.Polls.{poll_errors}
 use Rattle.kernel_model.proofs.Readiness.{parking_keeps}
 use Rattle.kernel_model.proofs.Refusals.{error_keeps, refusal_is_other, same_reply, where_reply}
 use Rattle.kernel_model.proofs.Sending.{on_holds, send_holds, sends_to, succeeds_or}
@@ -295,10 +293,6 @@ mem_map_bare constants S who place size prot fd offset table true = refl
 mem_map_bare constants S who place size prot fd offset table false =
     map_bare place size offset (tree_of S) (open_of (whole (tick S)) (get table fd))
 
-lone_silent : (userdata : ℕ) (what : What) → may_send (lone_poll userdata what).errors ≡ false
-lone_silent userdata (Clock clock timeout precision flags) = refl
-lone_silent userdata what = refl
-
 symlink_silent : (o : Option Errno) (m : NameMeaning) → may_send m.errors ≡ false → may_send (making_unless o m).errors ≡ false
 symlink_silent None m none = none
 symlink_silent (Some errno) m none = none
@@ -322,9 +316,7 @@ module _ (constants : Constants) (S : State) (who : Who) (table : Table) (nearly
       (mem_map_bare constants S who place size prot fd offset table (is_anonymous flags))
   others_count (calls.Memory number errno) none = counts_stay S
   others_count (calls.Refused number errno) none = counts_stay S
-  others_count (calls.Poll []) none = quiet (calls.Poll []) refl
-  others_count (calls.Poll (one ∷ [])) none = quiet (calls.Poll (one ∷ [])) (lone_silent one.userdata one.what)
-  others_count (calls.Poll (one ∷ two ∷ more)) none = quiet (calls.Poll (one ∷ two ∷ more)) refl
+  others_count (calls.Poll subscriptions) none = quiet (calls.Poll subscriptions) (poll_errors (λ errors. may_send errors ≡ false) refl refl subscriptions)
   others_count (calls.FileSymlink text fd path) none =
       quiet (calls.FileSymlink text fd path) (symlink_silent (text_error text) (making (node_kind.Link text) path) refl)
   others_count other none = quiet other refl

@@ -1,25 +1,24 @@
 -- What a call is in which a thread may wait.
 --     waited_is_no_lack      it has no lack of memory of its own
 --     waited_is_plain      it is not denied, and has no BADF, before the kernel looks at it
-use Rattle.std.proofs.Common.{◌≡◌, ◌≢◌, ℕ, Bool, true, false, List, [], ◌∷◌, refl, sym, ◌∙◌}
+use Rattle.std.proofs.Common.{◌≡◌, ◌≢◌, Bool, true, false, List, refl, sym, ◌∙◌}
 use Rattle.std.specs.Prelude.{if◌then◌else◌}
 use Rattle.std.specs.List.{AllByRecursion}
 use Rattle.abi_base.specs.declared.errno.Errno.{Errno}
 use Rattle.abi_base.specs.declared.errno.Errno.TheVariants.{Notcapable}
 use Rattle.abi_structures.specs.declared.events.Subscription.{Subscription}
-use Rattle.abi_structures.specs.declared.events.What.{What}
-use Rattle.abi_structures.specs.declared.events.What.TheVariants.{Clock}
 use Rattle.abi_types.specs.declared.call.Call.{Call}
 use Rattle.abi_types.specs.declared.call.Call.TheVariants as call
 use Rattle.abi_types.specs.Families.{is_anonymous}
 use Rattle.kernel_model.specs.CallBounds.{IsBadfBefore}
 use Rattle.kernel_model.specs.Families.FileMeaning.{on_open}
 use Rattle.kernel_model.specs.Families.MemoryCalls.{map_row, map_zeros, mapping}
-use Rattle.kernel_model.specs.Families.WaitCalls.{lone_poll, poll}
+use Rattle.kernel_model.specs.Families.Polls.{poll}
 use Rattle.kernel_model.specs.Laws.{IsNotDeniedEarly}
 use Rattle.kernel_model.specs.Meaning.{Meaning}
 use Rattle.kernel_model.specs.Waits.{may_wait}
 use Rattle.kernel_model.proofs.Calls.{proper}
+use Rattle.kernel_model.proofs.Polls.{poll_errors}
 use Rattle.kernel_model.proofs.Refusals.{IsNoLackOf}
 use Rattle.kernel_model.proofs.Tests.{not_true}
 
@@ -30,14 +29,8 @@ waited_is_no_lack call may = (proper call).lacks ((proper call).waits may).keeps
 abbrev AreNotDenied : List Errno → Type 0
 AreNotDenied errors = AllByRecursion (λ errno. errno ≢ Notcapable) errors
 
-lone_is_plain : (userdata : ℕ) (what : What) → AreNotDenied (lone_poll userdata what).errors
-lone_is_plain userdata (Clock clock timeout precision flags) = tt
-lone_is_plain userdata what = ((λ e. cc), tt)
-
 poll_is_plain : (subscriptions : List Subscription) → AreNotDenied (poll subscriptions).errors
-poll_is_plain [] = ((λ e. cc), tt)
-poll_is_plain (subscription ∷ []) = lone_is_plain subscription.userdata subscription.what
-poll_is_plain (first ∷ second ∷ rest) = ((λ e. cc), tt)
+poll_is_plain subscriptions = poll_errors AreNotDenied ((λ e. cc), tt) tt subscriptions
 
 map_never_waits : (place_length : Meaning) (other : Meaning) (b : Bool) → place_length.may_wait ≡ false → other.may_wait ≡ false
     → (if b then place_length else other).may_wait ≡ false

@@ -20,7 +20,8 @@ use Rattle.kernel_model.specs.Families.ForkCalls.{proc_exec, proc_fork}
 use Rattle.kernel_model.specs.Families.ProcessCalls.{proc_exit, proc_raise, thread_create, thread_exit, thread_yield}
 use Rattle.kernel_model.specs.Families.SocketCalls.{fd_create1, fd_create2, sock_recv, sock_send, sock_shutdown}
 use Rattle.kernel_model.specs.Families.StreamCalls.{fd_read, fd_seek, fd_write}
-use Rattle.kernel_model.specs.Families.WaitCalls.{condvar_signal, lock_unlock, poll}
+use Rattle.kernel_model.specs.Families.WaitCalls.{condvar_signal, lock_unlock}
+use Rattle.kernel_model.specs.Families.Polls.{poll}
 use Rattle.kernel_model.specs.Meaning.{Meaning}
 use Rattle.kernel_model.specs.Need as needs
 use Rattle.kernel_model.specs.Reply.{refused}

@@ -22,6 +22,7 @@ pub mod EntryCalls
 pub mod Opening
 pub mod SocketCalls
 pub mod WaitCalls
+pub mod Polls
 pub mod OpenMeaning
 pub mod ChannelCalls
 pub mod StreamCalls

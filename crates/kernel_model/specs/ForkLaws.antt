@@ -1,7 +1,7 @@
 -- What proc_fork and proc_exec do, in other words than their meanings: the statements that are the contracts of the functions of
 -- src/fork_laws.rt.
-use Rattle.std.specs.Prelude.{◌≡◌, ℕ, zero, suc, ◌<◌, ◌≤◌, List, [], ◌∷◌, Option, None, Some}
-use Rattle.std.specs.FinMap.{get, insert}
+use Rattle.std.specs.Prelude.{◌≡◌, ℕ, zero, suc, ◌+◌, ◌-◌, ◌*◌, ◌^◌, ◌<◌, ◌≤◌, List, [], ◌∷◌, Option, None, Some}
+use Rattle.std.specs.FinMap.{empty, get, insert}
 use Rattle.clock_random.specs.Random.{random_bytes}
 use Rattle.elf_image.specs.Checks.{fault_of}
 use Rattle.tree_model.specs.Changes.{bytes_of}
@@ -9,17 +9,20 @@ use Rattle.abi_base.specs.declared.errno.Errno.TheVariants.{Success}
 use Rattle.abi_types.specs.declared.call.Call.TheVariants.{ProcExec, ProcFork}
 use Rattle.abi_types.specs.declared.constants.Constants.{Constants}
 use Rattle.abi_types.specs.declared.descriptor.Descriptor.{Descriptor}
-use Rattle.abi_types.specs.declared.open_kind.OpenKind.TheVariants.{File}
+use Rattle.abi_types.specs.declared.open_kind.OpenKind.TheVariants.{File, Process}
 use Rattle.abi_types.specs.declared.reply.Answer.TheVariants as answer
+use Rattle.abi_types.specs.declared.reply.Payload.TheVariants.{Child}
 use Rattle.abi_types.specs.declared.reply.Reply.{Reply}
 use Rattle.abi_types.specs.declared.status.Status.TheVariants.{Live}
+use Rattle.abi_types.specs.declared.thread.Thread.TheVariants.{Runnable}
 use Rattle.abi_types.specs.declared.who.Who.{Who}
 use Rattle.kernel_model.specs.ChildLaws.{IsUnmade}
 use Rattle.kernel_model.specs.Families.DescriptorCalls.{lowest_free}
 use Rattle.kernel_model.specs.Families.ForkCalls.{child_descriptor, child_kind, child_number, child_open, child_process, forked_reply, image_reply}
 use Rattle.kernel_model.specs.Families.Numbers.{made_more}
 use Rattle.kernel_model.specs.OwnChanges.{with_next_child}
-use Rattle.kernel_model.specs.State.{ProcessState, State, Table, tree_of}
+use Rattle.kernel_model.specs.Reply.{success}
+use Rattle.kernel_model.specs.State.{ProcessState, State, Table, no_locks, tree_of}
 use Rattle.kernel_model.specs.Step.{IsStep}
 use Rattle.kernel_model.specs.ThreadLaws.{IsCaller}
 use Rattle.kernel_model.specs.Valid.{IsValid}
@@ -47,6 +50,33 @@ pub record IsForked (S : State) (who : Who) (left : ℕ) (reply : Reply) (T : St
       ≡ insert (insert S.processes who.pid (made_more 2 (with_next_child own))) (child_number who.pid own) (child_process who.tid own)
   pub statuses : T.statuses ≡ insert S.statuses (child_number who.pid own) Live
   pub opens : T.opens ≡ insert S.opens (child_open who.pid own) (child_kind who.pid own)
+
+-- What these are, in numbers, of thread t of process p, which has this of its own.
+pub record IsNumbered (p t : ℕ) (own : ProcessState) : Type 0 where
+  -- the child is the parent's next one, and its number has the place among these in the byte of the parent's depth, counted from the most
+  -- significant of four
+  pub number : child_number p own ≡ p + (own.counts.forks + 1) * 256 ^ (3 - own.depth)
+  -- it has the thread t, which runs, and no other; its threads are numbered on from its parent's; it has made no object, drawn no random word
+  -- and has no child; and it is one deeper
+  pub child : child_process t own
+      ≡ record {
+        threads = insert empty t Runnable;
+        counts = record { objects = 0; threads = own.counts.threads; forks = 0; words = 0 };
+        locks = no_locks;
+        depth = own.depth + 1;
+      }
+  -- the parent has counted two objects more, the child's and that of its open, and a child
+  pub parent : made_more 2 (with_next_child own)
+      ≡ record own { counts = record own.counts { objects = own.counts.objects + 2; forks = own.counts.forks + 1 } }
+  pub kind : child_kind p own ≡ Process (child_number p own) (p * 2 ^ 32 + (own.counts.objects + 1))
+  -- its descriptor of the child has FILE_STAT_FGET and POLL_PROC_TERMINATE, and passes on nothing
+  pub descriptor : child_descriptor p own
+      ≡ record { id = p * 2 ^ 32 + (own.counts.objects + 2); base = record { 0 = 0x40080000 }; inheriting = record { 0 = 0 } }
+  -- the result is the descriptor's number, and the run is told the child's
+  pub reply : (fd : ℕ) → forked_reply fd (child_number p own) ≡ record (success fd 0) { payload = Child (child_number p own) }
+
+abbrev pub ForksAreNumbered : Type 0
+ForksAreNumbered = (p t : ℕ) (own : ProcessState) → own.depth < 4 → IsNumbered p t own
 
 abbrev pub ForkMakesChild : Type 0
 ForkMakesChild =

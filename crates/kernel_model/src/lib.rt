@@ -24,7 +24,7 @@ pub use laws::{
     step_keeps_valid, steps_move_only, waited_keeps_threads, waiting_was_held,
 };
 pub use open_laws::{open_is_listed, opens_lead_below};
-pub use poll_laws::polls_await_clocks;
+pub use poll_laws::{polls_await_clocks, polls_await_soonest, polls_tell_ready};
 pub use thread_laws::{
     clocks_show_time, random_bytes_are_drawn, threads_are_numbered, threads_end_alone,
 };

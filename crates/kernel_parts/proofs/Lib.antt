@@ -7,7 +7,7 @@ pub mod Releases
 pub mod Forgetting
 pub mod Naming
 pub mod Activities
-pub mod PollReads
+pub mod NoPolls
 pub mod Parked
 pub mod Polling
 pub mod Threads

@@ -30,6 +30,7 @@ use Rattle.abi_types.specs.declared.family.SocketCall.TheVariants as socket
 use Rattle.abi_types.specs.declared.open_kind.OpenKind.{OpenKind}
 use Rattle.abi_types.specs.declared.open_kind.OpenKind.TheVariants.{File, Directory, End, Terminal, Process}
 use Rattle.abi_types.specs.declared.reply.Reply.{Reply}
+use Rattle.abi_types.specs.declared.status.Status.{Status}
 use Rattle.abi_types.specs.declared.stream.Stream.{Stream}
 use Rattle.abi_types.specs.declared.who.Who.{Who}
 use Rattle.channel_calls.specs.Calls.{HasAllSent}
@@ -55,21 +56,22 @@ use Rattle.kernel_model.proofs.Lacks.{all_present}
 use Rattle.kernel_model.proofs.Parking.{denied_is_not_parked, waits_only}
 use Rattle.kernel_model.proofs.Tests.{none_is_no, not_true}
 use Rattle.kernel_parts.specs.Entries.{open_in}
-use Rattle.kernel_parts.specs.Polls.{poll_outcome}
+use Rattle.poll_set.specs.Polls.{poll_outcome}
 use Rattle.kernel_parts.specs.Waiting.{end_at, fd_of_socket, socket_at}
-use Rattle.kernel_parts.proofs.PollReads.{either_meaning, poll_reads}
+use Rattle.kernel_parts.proofs.NoPolls.{either_meaning}
+use Rattle.poll_set.proofs.PollReads.{poll_reads}
 
 -- whether a call waits that isn't refused, by all that it looks at
-abbrev pub parks : Constants → FinMap nat_cmp OpenKind → FinMap nat_cmp Channel → ℕ → Table → ℕ → Call → Bool
-parks constants opens channels now table since (call.Poll subscriptions) = is_parked (poll_outcome constants since now subscriptions).answer
-parks constants opens channels now table since (call.FdRead fd n) = is_parked (end_at channels (open_in opens (get table fd)) (call.FdRead fd n)).answer
-parks constants opens channels now table since (call.FdWrite fd bytes) =
+abbrev pub parks : Constants → FinMap nat_cmp OpenKind → FinMap nat_cmp Channel → FinMap nat_cmp Status → ℕ → Table → ℕ → Call → Bool
+parks constants opens channels statuses now table since (call.Poll subscriptions) = is_parked (poll_outcome constants opens channels statuses now table since subscriptions).answer
+parks constants opens channels statuses now table since (call.FdRead fd n) = is_parked (end_at channels (open_in opens (get table fd)) (call.FdRead fd n)).answer
+parks constants opens channels statuses now table since (call.FdWrite fd bytes) =
     is_parked (end_at channels (open_in opens (get table fd)) (call.FdWrite fd bytes)).answer
-parks constants opens channels now table since (call.SockRecv fd n room flags) =
+parks constants opens channels statuses now table since (call.SockRecv fd n room flags) =
     is_parked (socket_at 0 table channels (open_in opens (get table fd)) (call.SockRecv fd n room flags)).answer
-parks constants opens channels now table since (call.SockSend fd bytes fds flags) =
+parks constants opens channels statuses now table since (call.SockSend fd bytes fds flags) =
     is_parked (socket_at 0 table channels (open_in opens (get table fd)) (call.SockSend fd bytes fds flags)).answer
-parks constants opens channels now table since _ = false
+parks constants opens channels statuses now table since _ = false
 
 -- ---- what each of these calls means
 
@@ -214,8 +216,8 @@ never_parks c never constants v who table =
 
 module _ (constants : Constants) (S : State) (who : Who) (table : Table) where
   parks_or_never : (c : Call) → (may_wait c ≡ false → is_parked ((meaning_of c).effect constants (whole S) who table).answer ≡ false)
-      → is_parked ((meaning_of c).effect constants (whole S) who table).answer ≡ parks constants S.opens S.chans S.clock table who.since c
-  parks_or_never (call.Poll subscriptions) never = ap (λ (o : Outcome). is_parked o.answer) (poll_reads constants (whole S) who table subscriptions)
+      → is_parked ((meaning_of c).effect constants (whole S) who table).answer ≡ parks constants S.opens S.chans S.statuses S.clock table who.since c
+  parks_or_never (call.Poll subscriptions) never = ap (λ (o : Outcome). is_parked o.answer) (poll_reads S constants who table subscriptions)
   parks_or_never (call.FdRead fd n) never = read_at S fd n (get table fd)
   parks_or_never (call.FdWrite fd bytes) never = write_at S fd _ bytes (get table fd)
   parks_or_never (call.SockRecv fd n room flags) never = receive_at S fd who.pid n room flags table (get table fd)
@@ -224,12 +226,12 @@ module _ (constants : Constants) (S : State) (who : Who) (table : Table) where
       never (either_meaning (λ m. m.may_wait ≡ false) (is_anonymous flags) (map_zeros place) (on_open (map_row fd prot) (mapping place length offset)) refl refl)
   parks_or_never _ never = never refl
 
-  pub effect_parks : (c : Call) → is_parked ((meaning_of c).effect constants (whole S) who table).answer ≡ parks constants S.opens S.chans S.clock table who.since c
+  pub effect_parks : (c : Call) → is_parked ((meaning_of c).effect constants (whole S) who table).answer ≡ parks constants S.opens S.chans S.statuses S.clock table who.since c
   effect_parks c = parks_or_never c (λ never. never_parks c never constants (whole S) who table)
 
 -- ---- by the views of calls
 
-module _ (constants : Constants) (opens : FinMap nat_cmp OpenKind) (channels : FinMap nat_cmp Channel) (now : ℕ) (table : Table) (since : ℕ) where
+module _ (constants : Constants) (opens : FinMap nat_cmp OpenKind) (channels : FinMap nat_cmp Channel) (statuses : FinMap nat_cmp Status) (now : ℕ) (table : Table) (since : ℕ) where
   no_seek : (kind : Option OpenKind) (fd bits whence : ℕ) → false ≡ is_parked (end_at channels kind (call.FdSeek fd bits whence)).answer
   no_seek None fd bits whence = refl
   no_seek (Some (File node offset flags)) fd bits whence = refl
@@ -238,7 +240,7 @@ module _ (constants : Constants) (opens : FinMap nat_cmp OpenKind) (channels : F
   no_seek (Some (Terminal which flags)) fd bits whence = refl
   no_seek (Some (Process p object)) fd bits whence = refl
 
-  pub offset_parks : (view : OffsetCall) → parks constants opens channels now table since (call_of_offset view)
+  pub offset_parks : (view : OffsetCall) → parks constants opens channels statuses now table since (call_of_offset view)
       ≡ is_parked (end_at channels (open_in opens (get table (fd_of_offset view))) (call_of_offset view)).answer
   offset_parks (offset.FdRead fd n) = refl
   offset_parks (offset.FdSeek fd bits whence) = no_seek (open_in opens (get table fd)) fd bits whence
@@ -254,14 +256,14 @@ module _ (constants : Constants) (opens : FinMap nat_cmp OpenKind) (channels : F
   no_shutdown (Some (Terminal which flags)) fd how = refl
   no_shutdown (Some (Process p object)) fd how = refl
 
-  pub socket_parks : (view : SocketCall) → parks constants opens channels now table since (call_of_socket view)
+  pub socket_parks : (view : SocketCall) → parks constants opens channels statuses now table since (call_of_socket view)
       ≡ is_parked (socket_at 0 table channels (open_in opens (get table (fd_of_socket view))) (call_of_socket view)).answer
   socket_parks (socket.SockRecv fd n room flags) = refl
   socket_parks (socket.SockSend fd bytes fds flags) = refl
   socket_parks (socket.SockShutdown fd how) = no_shutdown (open_in opens (get table fd)) fd how
 
   abbrev Never : Call → Type 0
-  Never c = parks constants opens channels now table since c ≡ false
+  Never c = parks constants opens channels statuses now table since c ≡ false
 
   never_changes : (view : DescriptorChange) → Never (call_of_change view)
   never_changes (Close fd) = refl

@@ -4,6 +4,7 @@ use Rattle.std.specs.Ordering.{nat_cmp}
 use Rattle.std.specs.FinMap.{FinMap, get}
 use Rattle.abi_types.specs.declared.constants.Constants.{Constants}
 use Rattle.abi_types.specs.declared.open_kind.OpenKind.{OpenKind}
+use Rattle.abi_types.specs.declared.status.Status.{Status}
 use Rattle.abi_types.specs.declared.thread.Thread.{Thread}
 use Rattle.abi_types.specs.declared.thread.Thread.TheVariants.{Runnable, Waits}
 use Rattle.kernel_model.specs.Channels.{Channel}
@@ -17,18 +18,18 @@ use Rattle.kernel_parts.specs.declared.activity.Activity.TheVariants.{NoThread, 
 abbrev pub by_over : Bool → Option ℕ → Activity
 by_over over until = if over then Busy else Waiting (soon until)
 
--- what a thread does at the moment `now`, of a process with this table, where there are these opens and channels
-abbrev pub activity_of : Constants → FinMap nat_cmp OpenKind → FinMap nat_cmp Channel → ℕ → Option Table → Thread → Activity
-activity_of constants opens channels now table Runnable = Busy
-activity_of constants opens channels now table (Waits call since until) = by_over (is_over constants opens channels now table since call) until
+-- what a thread does at the moment `now`, of a process with this table, where there are these opens and channels, and processes stand so
+abbrev pub activity_of : Constants → FinMap nat_cmp OpenKind → FinMap nat_cmp Channel → FinMap nat_cmp Status → ℕ → Option Table → Thread → Activity
+activity_of constants opens channels statuses now table Runnable = Busy
+activity_of constants opens channels statuses now table (Waits call since until) = by_over (is_over constants opens channels statuses now table since call) until
 
-abbrev pub activity_by : Constants → FinMap nat_cmp OpenKind → FinMap nat_cmp Channel → ℕ → Option Table → Option Thread → Activity
-activity_by constants opens channels now table None = NoThread
-activity_by constants opens channels now table (Some thread) = activity_of constants opens channels now table thread
+abbrev pub activity_by : Constants → FinMap nat_cmp OpenKind → FinMap nat_cmp Channel → FinMap nat_cmp Status → ℕ → Option Table → Option Thread → Activity
+activity_by constants opens channels statuses now table None = NoThread
+activity_by constants opens channels statuses now table (Some thread) = activity_of constants opens channels statuses now table thread
 
 -- the same of the thread with this number, if there is one
-abbrev pub activity_at : Constants → FinMap nat_cmp OpenKind → FinMap nat_cmp Channel → ℕ → Option Table → Threads → ℕ → Activity
-activity_at constants opens channels now table threads t = activity_by constants opens channels now table (get threads t)
+abbrev pub activity_at : Constants → FinMap nat_cmp OpenKind → FinMap nat_cmp Channel → FinMap nat_cmp Status → ℕ → Option Table → Threads → ℕ → Activity
+activity_at constants opens channels statuses now table threads t = activity_by constants opens channels statuses now table (get threads t)
 
 -- ---- of several threads
 

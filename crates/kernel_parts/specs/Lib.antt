@@ -3,7 +3,6 @@ pub mod Changes
 pub mod Entries
 pub mod StreamCalls
 pub mod Released
-pub mod Polls
 pub mod Waiting
 pub mod Activity
 pub mod OwnCalls

@@ -8,15 +8,16 @@ use Rattle.abi_types.specs.declared.constants.Constants.{Constants}
 use Rattle.abi_types.specs.declared.family.SocketCall.{SocketCall}
 use Rattle.abi_types.specs.declared.family.SocketCall.TheVariants.{SockRecv, SockSend, SockShutdown}
 use Rattle.abi_types.specs.declared.open_kind.OpenKind.{OpenKind}
+use Rattle.abi_types.specs.declared.status.Status.{Status}
 use Rattle.abi_types.specs.declared.thread.Thread.{Thread}
 use Rattle.abi_types.specs.declared.thread.Thread.TheVariants.{Runnable, Waits}
 use Rattle.channel_calls.specs.Calls.{end_outcome, socket_outcome}
 use Rattle.kernel_model.specs.Channels.{Channel}
 use Rattle.kernel_model.specs.Outcome.{Outcome, is_parked, replies}
 use Rattle.kernel_model.specs.Reply.{refused}
-use Rattle.kernel_model.specs.State.{Table, no_state}
+use Rattle.kernel_model.specs.State.{Table}
 use Rattle.kernel_model.specs.Step.{outcome_on}
-use Rattle.kernel_model.specs.View.{whole}
+use Rattle.poll_set.specs.Polls.{sight}
 
 -- the call that the thread waits in, and the moment at which it was made
 abbrev pub kept_in : Option Thread → Option (Call × ℕ)
@@ -25,10 +26,10 @@ kept_in (Some Runnable) = None
 kept_in (Some (Waits call since until)) = Some (call, since)
 
 -- Whether a call would be done at the moment `now` and not wait, which was made at the moment `since` by a thread of a process with this
--- table, where there are these opens and channels. A call that may wait reads nothing else of a state.
-abbrev pub is_over : Constants → FinMap nat_cmp OpenKind → FinMap nat_cmp Channel → ℕ → Option Table → ℕ → Call → Bool
-is_over constants opens channels now table since call =
-    not (is_parked (outcome_on constants (whole (record no_state { clock = now; opens = opens; chans = channels }))
+-- table, where there are these opens and channels, and processes stand so. A call that may wait reads nothing else of a state.
+abbrev pub is_over : Constants → FinMap nat_cmp OpenKind → FinMap nat_cmp Channel → FinMap nat_cmp Status → ℕ → Option Table → ℕ → Call → Bool
+is_over constants opens channels statuses now table since call =
+    not (is_parked (outcome_on constants (sight opens channels statuses now)
     (record { pid = 0; tid = 0; since = since }) call table).answer)
 
 -- what fd_read and fd_write come to by a descriptor's open, where there are ends of channels alone

@@ -2,10 +2,10 @@
 ghost use Rattle.std.specs.Prelude.{◌≡◌, option_copied};
 ghost use Rattle.kernel_parts.specs.Activity.{activity_of, both, earlier};
 
-use crate::polls::soon;
-use crate::waiting::{Surroundings, is_over};
+use crate::waiting::is_over;
 use abi_types::Thread;
 use fd_table::FdTable;
+use poll_set::{Surroundings, soon};
 
 /// What some threads do, taken together.
 #[derive(Clone, Copy)]
@@ -55,7 +55,7 @@ impl Activity {
         table: Option<&FdTable>,
         thread: &Thread,
     ) -> Activity
-        ensures { result ≡ activity_of around.entry.constants.now around.entry.objects.now.kinds around.entry.channels.now around.entry.now (option_copied table.entry) thread.now }
+        ensures { result ≡ activity_of around.entry.constants.now around.entry.objects.now.kinds around.entry.channels.now around.entry.statuses.now around.entry.now (option_copied table.entry) thread.now }
     {
         match thread {
             Thread::Runnable => Activity::Busy,

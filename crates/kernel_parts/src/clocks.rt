@@ -3,9 +3,7 @@ ghost use Rattle.std.specs.Prelude.{◌≡◌, ◌+◌, ◌<◌, ◌^◌};
 ghost use Rattle.kernel_model.specs.Families.ClockCalls as model;
 
 use abi_types::Constants;
-
-/// The clock that is the time since 1970.
-pub(crate) const REAL_TIME: u32 = 3;
+use poll_set::REAL_TIME;
 
 /// The resolution of each clock, in nanoseconds.
 pub const CLOCK_RESOLUTION: u64 = 1000;

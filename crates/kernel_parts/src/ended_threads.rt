@@ -30,6 +30,14 @@ pub fn wake_waiting(channels: &mut Channels, pid: Pid, own: &ProcessState)
     }
 }
 
+/// Notes that the threads are to be looked at again that wait in a process that has ended, or for its end. No contract rests on it.
+pub fn wake_at_end(channels: &mut Channels, pid: Pid, own: &ProcessState)
+    ensures { channels.new ≡ channels.old }
+{
+    wake_waiting(channels, pid, own);
+    channels.wake_at_end(pid);
+}
+
 // A thread beside this one, if there is another.
 fn other_than(threads: &NumMap<Thread>, tid: u64) -> Option<u64>
     ensures other { IfSome result (λ other. other ≢ tid) }

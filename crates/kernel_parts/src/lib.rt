@@ -4,13 +4,13 @@
 
 pub use activity::Activity;
 pub use clocks::{CLOCK_RESOLUTION, time_of};
-pub use ended_threads::wake_waiting;
+pub use ended_threads::{wake_at_end, wake_waiting};
 pub use entries::{Caller, EntryReply, change_entries};
 pub use locks::unlocked;
+pub use notes::note_wait;
 pub use numbers::next_number;
 pub use opens::{Opening, add_open, kind_of, open_of, put_opening};
 pub use places::placed;
-pub use polls::{poll, soon};
 pub use process::ProcessState;
 pub use releasing::{forget_nameless, release};
 pub use start::{granted, single, streams};
@@ -18,17 +18,17 @@ pub use stream_calls::on_stream;
 pub use table::{hold_all, let_go_all};
 pub use table_change::change_table;
 pub use terminal::Terminal;
-pub use waiting::{Surroundings, deadline_of, is_over};
+pub use waiting::{deadline_of, is_over};
 
 mod activity;
 mod clocks;
 mod ended_threads;
 mod entries;
 mod locks;
+mod notes;
 mod numbers;
 mod opens;
 mod places;
-mod polls;
 mod process;
 mod releasing;
 mod start;

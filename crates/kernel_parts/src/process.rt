@@ -20,7 +20,6 @@ use crate::activity::Activity;
 use crate::ended_threads::keep_only;
 use crate::numbers::next_number;
 use crate::start::{LAUNCH_PROCESS, single};
-use crate::waiting::Surroundings;
 use abi_types::{
     Answer, Call, Constants, Counts, Errno, ObjId, Payload, Pid, Thread, Tid, TryClone,
 };
@@ -28,6 +27,7 @@ use clock_random::random_bytes;
 use fd_table::FdTable;
 use lists::Bytes;
 use maps::NumMap;
+use poll_set::Surroundings;
 use right_rules::{refused, success, success_with};
 use std::alloc::{AllocError, Global};
 use std::marker::Model;
@@ -324,7 +324,7 @@ impl ProcessState {
 
     /// What the threads do now, where the process has this table. Looks at each thread.
     pub fn activity(&self, around: Surroundings<'_>, table: Option<&FdTable>) -> Activity
-        ensures { IsActivity (activity_at around.entry.constants.now around.entry.objects.now.kinds around.entry.channels.now around.entry.now (option_copied table.entry) self.now.threads) (λ _. ⊤) result }
+        ensures { IsActivity (activity_at around.entry.constants.now around.entry.objects.now.kinds around.entry.channels.now around.entry.statuses.now around.entry.now (option_copied table.entry) self.now.threads) (λ _. ⊤) result }
     {
         let mut found = Activity::NoThread;
         let mut last = None;

@@ -10,7 +10,7 @@ ghost use Rattle.tree_model.specs.Opens.{is_used};
 ghost use Rattle.tree_model.specs.Retained.{retained};
 ghost use Rattle.tree_model.specs.Tree.{IsTree};
 
-use crate::ended_threads::wake_waiting;
+use crate::ended_threads::wake_at_end;
 use crate::process::ProcessState;
 use crate::table::let_go_all;
 use abi_types::{ObjId, OpenKind, Pid, Signal, Status};
@@ -42,7 +42,8 @@ fn is_alive(status: Option<Status>) -> bool
     matches!(status, Some(Status::Live))
 }
 
-// Kills a process, where it lives: it has no descriptor and no thread left. Those that wait are to be looked at again.
+// Kills a process, where it lives: it has no descriptor and no thread left. Those that wait are to be looked at again, and those that wait
+// for its end.
 fn kill(
     pid: Pid,
     objects: &mut Objects,
@@ -63,7 +64,7 @@ fn kill(
     if is_alive(statuses.get(p).copied()) {
         statuses.replace(p, Status::Killed(Signal::Kill));
         let own = processes.get_mut(p);
-        wake_waiting(channels, pid, own);
+        wake_at_end(channels, pid, own);
         own.end();
         let_go_all(tables.get_mut(p), objects);
     }

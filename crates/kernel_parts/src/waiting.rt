@@ -8,11 +8,10 @@ ghost use Rattle.kernel_model.specs.Waits as model;
 ghost use Rattle.kernel_parts.specs.Entries.{open_in};
 ghost use Rattle.kernel_parts.specs.Waiting.{end_at, fd_of_socket, is_over, socket_at};
 
-use crate::polls::{poll_deadline, poll_waits};
 use abi_types::{Call, Constants, Family, OffsetCall, SocketCall};
-use channel_calls::{Channels, end_waits, socket_waits};
+use channel_calls::{end_waits, socket_waits};
 use fd_table::FdTable;
-use object_store::Objects;
+use poll_set::{Surroundings, poll_deadline, poll_waits};
 use right_rules::refusal;
 
 /// By which moment a call is over that was made at the moment `since`, if there is such a moment that counts.
@@ -23,16 +22,6 @@ pub fn deadline_of(constants: &Constants, call: &Call, since: u64) -> Option<u64
         Call::Poll { subscriptions } => poll_deadline(constants, since, subscriptions.as_slice()),
         _ => None,
     }
-}
-
-/// What a call that may wait looks at of a kernel beside its process's descriptors.
-#[derive(Clone, Copy)]
-pub struct Surroundings<'a> {
-    pub constants: &'a Constants,
-    pub objects: &'a Objects,
-    pub channels: &'a Channels,
-    /// The moment.
-    pub now: u64,
 }
 
 // Whether a call at the offset of a descriptor's open waits now.
@@ -49,7 +38,7 @@ fn offset_waits(around: Surroundings<'_>, table: &FdTable, call: OffsetCall<'_>)
 }
 
 // The descriptor of a call on a socket.
-fn socket_fd(call: SocketCall<'_>) -> u32
+pub(crate) fn socket_fd(call: SocketCall<'_>) -> u32
     ensures { result ≡ fd_of_socket call.entry }
 {
     match call {
@@ -75,7 +64,7 @@ fn socket_call_waits(around: Surroundings<'_>, table: &FdTable, call: SocketCall
 
 /// Whether a call would be done now and not wait, which was made at the moment `since` by a thread of the process that has this table.
 pub fn is_over(around: Surroundings<'_>, table: Option<&FdTable>, since: u64, call: &Call) -> bool
-    ensures { result ≡ is_over around.entry.constants.now around.entry.objects.now.kinds around.entry.channels.now around.entry.now (option_copied table.entry) since call.now }
+    ensures { result ≡ is_over around.entry.constants.now around.entry.objects.now.kinds around.entry.channels.now around.entry.statuses.now around.entry.now (option_copied table.entry) since call.now }
 {
     let Some(table) = table else {
         return true;
@@ -84,9 +73,7 @@ pub fn is_over(around: Surroundings<'_>, table: Option<&FdTable>, since: u64, ca
         return true;
     }
     match call.family() {
-        Family::Poll(subscriptions) => {
-            !poll_waits(around.constants, since, around.now, subscriptions)
-        }
+        Family::Poll(subscriptions) => !poll_waits(around, table, since, subscriptions),
         Family::Offset(view) => !offset_waits(around, table, view),
         Family::Socket(view) => !socket_call_waits(around, table, view),
         _ => true,

@@ -241,7 +241,7 @@ module _ (launch : Launch) (begins : MayBegin launch.tree launch.grants) (v w : 
       (call_lives (remove threads t) stands told.0 told.1.guest_is (tells_none call told.0.given plain), enters_call (remove threads t) phase.Lives told.0)
   call_by plain yields acted.Begins gives stands told =
       (call_lives (alone t) stands told.0 told.1.guest_is (tells_none call told.0.given plain), enters_call (alone t) phase.Lives told.0)
-  call_by plain yields acted.Lost gives stands told = (refl, inl (enters_call threads phase.Lost told))
+  call_by plain yields acted.Lost gives stands told = (refl, inl (enters_call threads phase.Lost told.0, told.1))
   call_by plain yields acted.Ends gives stands told = (refl, inl (enters_call threads phase.Gone told.0))
   call_by plain yields acted.Gone gives stands told = (refl, inr (own_none launch v w told.0))
   call_by plain yields acted.NoMemory gives stands told = (refl, inr (own_none launch v w told.0))
@@ -293,7 +293,7 @@ module _ (launch : Launch) (begins : MayBegin launch.tree launch.grants) (v w : 
   none_by (Ok None) stands told none =
       (call_lives threads stands told.0 told.1.guest_is told.3, (enters_call threads phase.Lives told.0, told.3))
   none_by (Err not_made.Gone) stands told none = (refl, own_none launch v w told.0)
-  none_by (Err not_made.NoMemory) stands told none = (refl, inr (own_none launch v w told.0))
+  none_by (Err not_made.NoMemory) stands told none = (refl, own_none launch v w told.0)
 
 -- the history that was seen before a call doesn't matter
 module _ (t : ℕ) (before after : Standing) (seen : List Entry) where
@@ -323,7 +323,7 @@ module _ (t : ℕ) (before after : Standing) (seen : List Entry) where
   called_earlier did.ProcessGone n made =
       (made.0, elim made.1 [ inl entered ↦ inl (enters_earlier entered) | inr none ↦ inr none ])
   called_earlier did.NoMemory n made =
-      (made.0, elim made.1 [ inl entered ↦ inl (enters_earlier entered) | inr none ↦ inr none ])
+      (made.0, elim made.1 [ inl entered ↦ inl (enters_earlier entered.0, entered.1) | inr none ↦ inr none ])
 
 -- nothing that came of a call that was made is that it is a proc_fork
 made_it : (yields : Bool) (outcome : Acted) → did_after_act yields outcome ≢ did.Forks

@@ -3,7 +3,7 @@
 --     IsCalled, IsForked, IsFinished, IsEnded      a call, a proc_fork, a wake, and an end from outside, by what came of it
 --     IsRun      a turn and what it ends in
 --     IsStepped      a step
-use Rattle.std.specs.Prelude.{◌≡◌, ◌≢◌, ◌⊎◌, ◌<◌, ◌-◌, ℕ, [], ◌∷◌, ◌++◌, Option, None, Some}
+use Rattle.std.specs.Prelude.{◌≡◌, ◌≢◌, ◌⊎◌, ◌<◌, ◌-◌, ℕ, [], ◌∷◌, ◌++◌, Option, None, Some, true}
 use Rattle.std.specs.FinMap.{get, insert, remove}
 use Rattle.abi_types.specs.declared.reply.Answer.{Answer}
 use Rattle.abi_types.specs.declared.call.Call.{Call}
@@ -14,7 +14,7 @@ use Rattle.run_types.specs.declared.history.Act.TheVariants as act
 use Rattle.run_types.specs.declared.launch.Launch.{Launch}
 use Rattle.rv_interp.specs.declared.turns.TurnEnd.{TurnEnd}
 use Rattle.rv_interp.specs.declared.turns.TurnEnd.TheVariants as turn_end_is
-use Rattle.kernel_model.specs.Threads.{child_told}
+use Rattle.kernel_model.specs.Threads.{child_told, ends_others}
 use Rattle.kernel_cell.specs.Acting.{IsNotReady, act_of}
 use Rattle.run_model.specs.World.{share}
 use Rattle.shared_history.specs.Entries.{entry_of, head_of}
@@ -63,7 +63,8 @@ pub record LivesOn (before after : Standing) (threads : Threads) : Type 0 where
 
 -- The call is an entry, and the process lives on: its thread goes on, and gives way to others or not, but after thread_yield it always does;
 -- or it goes on beside one that was not there before, or in another program with no other thread, or waits in the call, or has ended. Or the
--- process has ended, by this call or before it; or memory ran out. A proc_fork isn't made by it: the thread stands at it still.
+-- process has ended, by this call or before it; or memory ran out before it, or for the program that began by it. A proc_fork isn't made by it:
+-- the thread stands at it still.
 abbrev pub IsCalled : ℕ → Standing → Standing → Did → Type 0
 IsCalled t before after did.Runs =
     LivesOn before after before.threads × ((entered : EntersCall t before after) × (entered.call ≢ ThreadYield))
@@ -76,7 +77,8 @@ IsCalled t before after did.Parks = LivesOn before after (insert before.threads 
 IsCalled t before after did.NotReady = ⊥
 IsCalled t before after did.ThreadGone = LivesOn before after (remove before.threads t) × EntersCall t before after
 IsCalled t before after did.ProcessGone = (after.phase ≡ phase.Gone) × (EntersCall t before after ⊎ EntersNone before after)
-IsCalled t before after did.NoMemory = (after.phase ≡ phase.Lost) × (EntersCall t before after ⊎ EntersNone before after)
+IsCalled t before after did.NoMemory =
+    (after.phase ≡ phase.Lost) × (((entered : EntersCall t before after) × (ends_others entered.call entered.given ≡ true)) ⊎ EntersNone before after)
 
 -- ---- children
 
@@ -97,7 +99,7 @@ pub record IsChildOf (t : ℕ) (before after child : Standing) : Type 0 where
   pub none : child.own ≡ []
 
 -- A proc_fork is an entry, and its thread goes on: with the child that its answer tells, or without one where it tells none. Or the process
--- had ended before it; or memory ran out.
+-- had ended before it; or memory ran out before it.
 abbrev pub IsForked : ℕ → Standing → Standing → Did → Option Standing → Type 0
 IsForked t before after did.Runs None =
     LivesOn before after before.threads × ((entered : EntersCall t before after) × (child_told entered.call entered.given ≡ None))
@@ -105,7 +107,7 @@ IsForked t before after did.Yields (Some child) =
     GivesShare before after × ((entered : EntersCall t before after) × (child_told entered.call entered.given ≡ Some child.pid))
     × IsChildOf t before after child
 IsForked t before after did.ProcessGone None = (after.phase ≡ phase.Gone) × EntersNone before after
-IsForked t before after did.NoMemory None = (after.phase ≡ phase.Lost) × (EntersCall t before after ⊎ EntersNone before after)
+IsForked t before after did.NoMemory None = (after.phase ≡ phase.Lost) × EntersNone before after
 IsForked t before after other child = ⊥
 
 -- ---- wakes and ends

@@ -13,9 +13,7 @@ use Rattle.abi_types.specs.declared.place.Place.TheVariants as place
 use Rattle.abi_types.specs.declared.place.Place.TheVariants.{At}
 use Rattle.abi_base.specs.Registers.{Registers}
 use Rattle.abi_structures.specs.declared.events.Subscription.{Subscription}
-use Rattle.abi_structures.specs.declared.events.What.{What}
-use Rattle.abi_structures.specs.declared.events.What.TheVariants.{Clock}
-use Rattle.kernel_model.specs.Families.WaitCalls.{lone_poll, poll}
+use Rattle.kernel_model.specs.Families.Polls.{poll}
 use Rattle.kernel_model.specs.Calls.{errors_of}
 use Rattle.kernel_model.specs.Laws.{IsNotDeniedEarly}
 use Rattle.kernel_model.specs.Families.FileMeaning.{on_open}
@@ -23,6 +21,7 @@ use Rattle.abi_types.specs.Families.{is_anonymous}
 use Rattle.kernel_model.specs.Families.MemoryCalls.{map_row, map_zeros, mapping, place_errors}
 use Rattle.kernel_model.specs.Families.NameMaking.{making, making_unless, text_error}
 use Rattle.kernel_model.proofs.Lists.{all_weaker}
+use Rattle.kernel_model.proofs.Polls.{poll_errors}
 use Rattle.kernel_model.proofs.Refusals.{IsNoLackOf}
 use Rattle.abi_types.specs.declared.node.NodeKind.TheVariants as kind
 use Rattle.guest_memory.specs.Changes.{lowest_gap}
@@ -117,14 +116,8 @@ symlink_plain None text path = refl
 symlink_plain (Some errno) text path = refl
 
 -- nor does what a poll waits for
-lone_plain : (userdata : ℕ) (what : What) → are_plain (lone_poll userdata what).errors ≡ true
-lone_plain userdata (Clock clock timeout precision flags) = refl
-lone_plain userdata what = refl
-
 poll_plain : (subscriptions : List Subscription) → are_plain (poll subscriptions).errors ≡ true
-poll_plain [] = refl
-poll_plain (subscription ∷ []) = lone_plain subscription.userdata subscription.what
-poll_plain (first ∷ second ∷ rest) = refl
+poll_plain subscriptions = poll_errors (λ errors. are_plain errors ≡ true) refl refl subscriptions
 
 -- ---- all of them
 

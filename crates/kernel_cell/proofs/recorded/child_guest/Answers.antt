@@ -14,4 +14,4 @@ returns-then-not-may_fork-clause-none c = λ none.
     subst
     (λ (left : ℕ). (constants : Constants) (given : Answer) (after : State) → IsStep constants c.args.kernel.now (caller c.args.kernel.now c.args.pid c.args.tid) (ProcFork left) given after
     → child_told (ProcFork left) given ≡ None)
-    (ap (λ (g : Guest). g.left) c.guest.view_is) (c.if-not-may_fork.ensures refl)
+    (ap (λ (g : Guest). g.left) c.guest.view_is) (c.if-not-may_fork.ensures.none refl)

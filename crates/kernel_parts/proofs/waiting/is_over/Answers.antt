@@ -12,9 +12,9 @@ returns-in-Poll c =
     let allowed : refusal c.in-Some.table.now c.args.call.now ≡ None =
     sym c.refusal.ensures ∙ none_of c.refusal.result (sym c.is_some.ensures ∙ c.if-is_some.false) in
     ap not c.poll_waits.ensures
-    ∙ sym (ap (λ t. is_over c.args.around.constants.now c.args.around.objects.now.kinds c.args.around.channels.now c.args.around.now (option_copied t) c.args.since
+    ∙ sym (ap (λ t. is_over c.args.around.constants.now c.args.around.objects.now.kinds c.args.around.channels.now c.args.around.statuses.now c.args.around.now (option_copied t) c.args.since
     c.args.call.now) c.in-Some.is
-    ∙ poll_is_over c.args.around.constants.now c.args.around.objects.now.kinds c.args.around.channels.now c.args.around.now c.in-Some.table.now c.args.since
+    ∙ poll_is_over c.args.around.constants.now c.args.around.objects.now.kinds c.args.around.channels.now c.args.around.statuses.now c.args.around.now c.in-Some.table.now c.args.since
     c.args.call.now allowed c.family.result c.family.ensures c.in-Poll.subscriptions c.in-Poll.is)
 
 pub returns-in-Offset : goal.returns-in-Offset
@@ -22,9 +22,9 @@ returns-in-Offset c =
     let allowed : refusal c.in-Some.table.now c.args.call.now ≡ None =
     sym c.refusal.ensures ∙ none_of c.refusal.result (sym c.is_some.ensures ∙ c.if-is_some.false) in
     ap not c.offset_waits.ensures
-    ∙ sym (ap (λ t. is_over c.args.around.constants.now c.args.around.objects.now.kinds c.args.around.channels.now c.args.around.now (option_copied t) c.args.since
+    ∙ sym (ap (λ t. is_over c.args.around.constants.now c.args.around.objects.now.kinds c.args.around.channels.now c.args.around.statuses.now c.args.around.now (option_copied t) c.args.since
     c.args.call.now) c.in-Some.is
-    ∙ offset_is_over c.args.around.constants.now c.args.around.objects.now.kinds c.args.around.channels.now c.args.around.now c.in-Some.table.now c.args.since
+    ∙ offset_is_over c.args.around.constants.now c.args.around.objects.now.kinds c.args.around.channels.now c.args.around.statuses.now c.args.around.now c.in-Some.table.now c.args.since
     c.args.call.now allowed c.family.result c.family.ensures c.in-Offset.view c.in-Offset.is)
 
 pub socket_call_waits-requires : goal.socket_call_waits-requires
@@ -39,16 +39,16 @@ returns-in-Socket c =
     let allowed : refusal c.in-Some.table.now c.args.call.now ≡ None =
     sym c.refusal.ensures ∙ none_of c.refusal.result (sym c.is_some.ensures ∙ c.if-is_some.false) in
     ap not (c.socket_call_waits.ensures 0)
-    ∙ sym (ap (λ t. is_over c.args.around.constants.now c.args.around.objects.now.kinds c.args.around.channels.now c.args.around.now (option_copied t) c.args.since
+    ∙ sym (ap (λ t. is_over c.args.around.constants.now c.args.around.objects.now.kinds c.args.around.channels.now c.args.around.statuses.now c.args.around.now (option_copied t) c.args.since
     c.args.call.now) c.in-Some.is
-    ∙ socket_is_over c.args.around.constants.now c.args.around.objects.now.kinds c.args.around.channels.now c.args.around.now c.in-Some.table.now c.args.since
+    ∙ socket_is_over c.args.around.constants.now c.args.around.objects.now.kinds c.args.around.channels.now c.args.around.statuses.now c.args.around.now c.in-Some.table.now c.args.since
     c.args.call.now allowed c.family.result c.family.ensures c.in-Socket.view c.in-Socket.is)
 
 pub returns-in_default-family : goal.returns-in_default-family
 returns-in_default-family c =
     let allowed : refusal c.in-Some.table.now c.args.call.now ≡ None =
     sym c.refusal.ensures ∙ none_of c.refusal.result (sym c.is_some.ensures ∙ c.if-is_some.false) in
-    sym (ap (λ t. is_over c.args.around.constants.now c.args.around.objects.now.kinds c.args.around.channels.now c.args.around.now (option_copied t) c.args.since
+    sym (ap (λ t. is_over c.args.around.constants.now c.args.around.objects.now.kinds c.args.around.channels.now c.args.around.statuses.now c.args.around.now (option_copied t) c.args.since
     c.args.call.now) c.in-Some.is
-    ∙ other_is_over c.args.around.constants.now c.args.around.objects.now.kinds c.args.around.channels.now c.args.around.now c.in-Some.table.now c.args.since
+    ∙ other_is_over c.args.around.constants.now c.args.around.objects.now.kinds c.args.around.channels.now c.args.around.statuses.now c.args.around.now c.in-Some.table.now c.args.since
     c.args.call.now allowed c.family.result c.family.ensures c.in_default-family.not-Poll c.in_default-family.not-Offset c.in_default-family.not-Socket)

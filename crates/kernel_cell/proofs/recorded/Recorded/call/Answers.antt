@@ -121,7 +121,7 @@ returns-clause-acted g c =
     c.append_call.new.self.log (ap (λ k. k.log) c.append_call.ensures) c.begin-begun.new.self c.begin-begun.result
     (begun_or_lost c.begin-begun.result self.constants self.kernel (caller self.kernel c.args.pid c.args.tid) c.args.call c.step-answer.result c.step-answer.new.self
     c.args.pid c.args.tid guest c.answer.new.self c.begin-begun.new.self c.requires.plain c.step-answer.ensures.step answered c.begin-begun.ensures.ok)
-    c.unless_lost.result c.live-2.result c.call_end-end.result c.next_thread-next.result
+    c.begin-begun.ensures.only c.unless_lost.result c.live-2.result c.call_end-end.result c.next_thread-next.result
     (c.unless_lost.ensures ∙ ap (unless_lost (is_ok c.begin-begun.result)) c.acted.ensures) c.call_end-end.ensures c.next_thread-next.ensures c.live-2.ensures
 
 pub returns-clause-guest : goal.returns-clause-guest

@@ -39,15 +39,15 @@ loop-p-preserved-in-Some-get c =
     subst (λ (S : State). IsActivity (does constants S) (λ i. IsPast c.loop-p.last i.0) c.loop-p.found
     → IsActivity (does constants S) (λ i. IsPast (Some p) i.0) c.with-found.result) c.self.view_is
     (λ before. subst (IsActivity (does constants T) (λ i. IsPast (Some p) i.0)) (sym c.with-found.ensures)
-    (goes_on T.processes c.loop-p.last _ (does constants T) (λ i. i.0) (λ i none. ap (activity_by constants T.opens T.chans T.clock (get T.tables i.0)) (no_thread_by T i.0 i.1 none))
+    (goes_on T.processes c.loop-p.last _ (does constants T) (λ i. i.0) (λ i none. ap (activity_by constants T.opens T.chans T.statuses T.clock (get T.tables i.0)) (no_thread_by T i.0 i.1 none))
     p c.loop-p.found c.activity.result c.in-Some.ensures before
-    (taken (does constants T) (activity_at constants T.opens T.chans T.clock (option_copied c.get-in-Some-get.result) c.in-Some-get.own.now.threads) (λ t. (p, t)) (λ _. ⊤) (λ i. i.0 ≡ p)
+    (taken (does constants T) (activity_at constants T.opens T.chans T.statuses T.clock (option_copied c.get-in-Some-get.result) c.in-Some-get.own.now.threads) (λ t. (p, t)) (λ _. ⊤) (λ i. i.0 ≡ p)
     c.activity.result
-    (λ t. ap (λ o. activity_by constants T.opens T.chans T.clock o (thread_of T p t)) (sym c.get-in-Some-get.ensures.value)
-    ∙ ap (activity_by constants T.opens T.chans T.clock (option_copied c.get-in-Some-get.result)) (thread_by T p t c.in-Some-get.own.now found))
+    (λ t. ap (λ o. activity_by constants T.opens T.chans T.statuses T.clock o (thread_of T p t)) (sym c.get-in-Some-get.ensures.value)
+    ∙ ap (activity_by constants T.opens T.chans T.statuses T.clock (option_copied c.get-in-Some-get.result)) (thread_by T p t c.in-Some-get.own.now found))
     (λ t _. refl) (λ i same. (i.1, tt, λ k. (same k, i.1)))
     (active_at c.around-around.ensures.constants (c.around-around.ensures.opens ∙ ap (λ (S : State). S.opens) (sym c.self.view_is))
-    (c.around-around.ensures.channels ∙ ap (λ (S : State). S.chans) (sym c.self.view_is)) (c.around-around.ensures.moment ∙ ap (λ (S : State). S.clock) (sym c.self.view_is))
+    (c.around-around.ensures.channels ∙ ap (λ (S : State). S.chans) (sym c.self.view_is)) (c.around-around.ensures.statuses ∙ ap (λ (S : State). S.statuses) (sym c.self.view_is)) (c.around-around.ensures.moment ∙ ap (λ (S : State). S.clock) (sym c.self.view_is))
     (option_copied c.get-in-Some-get.result) c.in-Some-get.own.now.threads c.activity.result c.activity.ensures))))
     c.loop-p.invariant
 
@@ -57,6 +57,6 @@ returns c =
     let T = the_view c.self.inside in
     subst (λ (S : State). IsActivity (does constants S) (λ i. IsPast c.loop-p.last i.0) c.loop-p.found → ThreadsDo constants S c.loop-p.found) c.self.view_is
     (λ before. threads_do constants T c.loop-p.found c.self.invariant.valid
-    (are_all T.processes c.loop-p.last _ (does constants T) (λ i. i.0) (λ i none. ap (activity_by constants T.opens T.chans T.clock (get T.tables i.0)) (no_thread_by T i.0 i.1 none))
+    (are_all T.processes c.loop-p.last _ (does constants T) (λ i. i.0) (λ i none. ap (activity_by constants T.opens T.chans T.statuses T.clock (get T.tables i.0)) (no_thread_by T i.0 i.1 none))
     c.loop-p.found c.in_default.ensures before))
     c.loop-p.invariant

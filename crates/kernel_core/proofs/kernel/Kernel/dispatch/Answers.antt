@@ -24,7 +24,7 @@ use Rattle.kernel_model.specs.Valid.{IsValid}
 use Rattle.kernel_model.specs.View.{whole}
 use Rattle.kernel_model.proofs.Valids.{release_valid, same_value}
 use Rattle.kernel_parts.specs.Changes.{change_outcome}
-use Rattle.kernel_parts.specs.Polls.{poll_outcome}
+use Rattle.poll_set.specs.Polls.{poll_outcome}
 use Rattle.kernel_parts.specs.Waiting.{fd_of_socket}
 use Rattle.kernel_core.specs.Entries.{entry_outcome}
 use Rattle.kernel_core.specs.Files.{file_outcome}
@@ -35,7 +35,7 @@ use Rattle.kernel_core.specs.Sockets.{socket_on}
 use Rattle.kernel_core.proofs.Acts.{act_allowed, act_refused, by_outcome, stat_get_sets_nothing}
 use Rattle.kernel_core.proofs.Channels.{socket_does}
 use Rattle.kernel_core.proofs.EntryCalls.{entries_does, first_is_named}
-use Rattle.kernel_core.proofs.Families.{all_named, answered_does, answered_is, change_does, change_is, change_replaces, change_takes_memory, ends_is, entries_is, entries_on, exec_is, exit_is, file_is, file_on, fork_is, new_thread_is, offset_is, offset_on, on_err_all, on_err_both, open_is, poll_does, poll_is, poll_sets_nothing, poll_takes_memory, raise_is, random_is, resolution_is, socket_is, state_is, thread_exit_is, time_is, unbuilt_does, unbuilt_is, zeros_does, zeros_is}
+use Rattle.kernel_core.proofs.Families.{all_named, answered_does, answered_is, change_does, change_is, change_replaces, change_takes_memory, ends_is, entries_is, entries_on, exec_is, exit_is, file_is, file_on, fork_is, new_thread_is, offset_is, offset_on, on_err_all, on_err_both, open_is, poll_does, poll_in, poll_is, poll_may_lack, poll_sets_nothing, raise_is, random_is, resolution_is, socket_is, state_is, thread_exit_is, time_is, unbuilt_does, unbuilt_is, zeros_does, zeros_is}
 use Rattle.kernel_core.proofs.FileCalls.{file_does}
 use Rattle.kernel_core.proofs.OffsetCalls.{offset_does}
 use Rattle.kernel_core.proofs.OpenCalls.{open_does}
@@ -418,11 +418,15 @@ returns-in-Poll-clause-ok c =
     let S = c.args.self.now in
     let who = c.args.who.now in
     let subscriptions = c.in-Poll.subscriptions.now in
-    let o = poll_outcome c.args.constants.now who.since S.clock subscriptions in
+    let table = c.in-Some.table.now in
+    let o = poll_in c.args.constants.now S who table subscriptions in
     let is = allowed a (call.Poll subscriptions) o c.in_default-refusal.is (poll_is c.args.call.now c.family.result c.family.ensures c.in-Poll.subscriptions c.in-Poll.is)
-    (poll_does c.args.constants.now S who c.in-Some.table.now subscriptions) in
-    IfOk-weaker _ _ _ (λ given answered. by_outcome c.args.constants.now S S who c.args.call.now given o is
-    (answered ∙ (λ i. (poll_outcome c.args.constants.now ((c.who.view_is i).since) ((c.self.view_is i).clock) subscriptions).answer), sym (ap (λ us. release (put_all us S)) (poll_sets_nothing c.args.constants.now who.since S.clock subscriptions) ∙ release_valid S (valid a))))
+    (poll_does c.args.constants.now S who table subscriptions) in
+    IfOk-weaker _ _ _ (λ given answered. by_outcome c.args.constants.now S S who c.args.call.now given o is (
+      answered ∙ (λ i. (poll_outcome (c.around-around.ensures.constants i) (c.around-around.ensures.opens i) (c.around-around.ensures.channels i) (c.around-around.ensures.statuses i)
+          (c.around-around.ensures.moment i) table ((c.who.view_is i).since) subscriptions).answer),
+      sym (ap (λ us. release (put_all us S)) (poll_sets_nothing c.args.constants.now S who table subscriptions) ∙ release_valid S (valid a)),
+    ))
     c.poll.ensures.ok
 
 pub returns-in-Poll-clause-err : goal.returns-in-Poll-clause-err
@@ -431,13 +435,15 @@ returns-in-Poll-clause-err c =
     let S = c.args.self.now in
     let who = c.args.who.now in
     let subscriptions = c.in-Poll.subscriptions.now in
-    let o = poll_outcome c.args.constants.now who.since S.clock subscriptions in
+    let table = c.in-Some.table.now in
+    let o = poll_in c.args.constants.now S who table subscriptions in
     let same = poll_is c.args.call.now c.family.result c.family.ensures c.in-Poll.subscriptions c.in-Poll.is in
-    let is = allowed a (call.Poll subscriptions) o c.in_default-refusal.is same (poll_does c.args.constants.now S who c.in-Some.table.now subscriptions) in
+    let is = allowed a (call.Poll subscriptions) o c.in_default-refusal.is same (poll_does c.args.constants.now S who table subscriptions) in
     on_err_both c.poll.result c.poll.ensures.err c.poll.ensures.err (λ succeeds _.
     let done : IsSuccess o.answer =
-    subst IsSuccess (λ i. (poll_outcome c.args.constants.now ((c.who.view_is i).since) ((c.self.view_is i).clock) subscriptions).answer) succeeds in
-    lacks a S (call.Poll subscriptions) o same is (poll_takes_memory c.args.constants.now who.since S.clock subscriptions done) done refl)
+    subst IsSuccess (λ i. (poll_outcome (c.around-around.ensures.constants i) (c.around-around.ensures.opens i) (c.around-around.ensures.channels i) (c.around-around.ensures.statuses i)
+    (c.around-around.ensures.moment i) table ((c.who.view_is i).since) subscriptions).answer) succeeds in
+    lacks a S (call.Poll subscriptions) o same is (poll_may_lack c.args.constants.now S who table subscriptions done) done refl)
 
 pub returns-in-Answered-clause-ok : goal.returns-in-Answered-clause-ok
 returns-in-Answered-clause-ok c =

@@ -62,9 +62,9 @@ after c =
     let statuses : c.replace.new.self ≡ insert k.statuses c.args.pid c.args.status =
     c.replace.ensures.new ∙ ap (λ (p : ℕ). insert k.statuses p c.args.status) same in
     let given : state_by (insert k.tables c.from-p.result c.let_go_all.new.table) (insert k.processes c.from-p.result c.end.new.self) c.replace.new.self
-    c.let_go_all.new.objects.kinds c.wake_waiting.new.channels k.tree
+    c.let_go_all.new.objects.kinds c.wake_at_end.new.channels k.tree
     ≡ state_by (unreleased c).tables (unreleased c).processes (unreleased c).statuses (unreleased c).opens k.channels k.tree =
-    λ i. state_by (emptied c i) (own i) (statuses i) (c.let_go_all.ensures.kinds i) (c.wake_waiting.ensures i) k.tree in
+    λ i. state_by (emptied c i) (own i) (statuses i) (c.let_go_all.ensures.kinds i) (c.wake_at_end.ensures i) k.tree in
     ap (λ (S : State). record S { clock = k.clock; terms = k.terms }) (c.release.ensures.state ∙ ap release given)
     ∙ sym (release_besides (state_by (unreleased c).tables (unreleased c).processes (unreleased c).statuses (unreleased c).opens k.channels k.tree) k.clock k.terms)
 
@@ -78,7 +78,7 @@ tables_are c = ap (λ (S : State). S.tables) (after c)
 pub release-requires-clause-counted : goal.release-requires-clause-counted
 release-requires-clause-counted c =
     subst (λ (chans : Channels). AreCounted c.let_go_all.new.objects.counts (insert c.self.inside.tables c.from-p.result c.let_go_all.new.table) chans)
-    (sym c.wake_waiting.ensures)
+    (sym c.wake_at_end.ensures)
     (subst (λ (t : Table). AreCounted c.let_go_all.new.objects.counts (insert c.self.inside.tables c.from-p.result t) c.self.inside.channels)
     (sym c.let_go_all.ensures.empty)
     (emptied_counts c.self.inside.tables c.from-p.result c.get_mut.result.now (sym c.get_mut.ensures.value) c.self.inside.channels c.self.inside.objects.counts
@@ -100,7 +100,7 @@ release-requires-clause-used c = λ n there.
     ap (λ (m : FinMap nat_cmp OpenKind). is_used m c.self.inside.tree n) c.let_go_all.ensures.kinds ∙ c.self.invariant.valid.kept n there
 
 pub release-requires-clause-going : goal.release-requires-clause-going
-release-requires-clause-going c = subst AllGoOn (sym c.wake_waiting.ensures) c.self.invariant.valid.going
+release-requires-clause-going c = subst AllGoOn (sym c.wake_at_end.ensures) c.self.invariant.valid.going
 
 pub release-requires-clause-tree : goal.release-requires-clause-tree
 release-requires-clause-tree c = c.self.invariant.valid.nearly.tree
@@ -113,7 +113,7 @@ invariant_of-self c =
     record {
       valid = subst IsValid (sym (after a)) (release_restores _ (nearly a));
       counted = a.release.ensures.counted;
-      few = a.release.ensures.few (subst AreFew (sym a.wake_waiting.ensures) a.self.invariant.few);
+      few = a.release.ensures.few (subst AreFew (sym a.wake_at_end.ensures) a.self.invariant.few);
       small = subst AreSmall (sym (tables_are a)) (small_released (unreleased a) (small_set k.tables a.args.pid empty a.self.invariant.small small_empty));
       processes = subst (KeysBelow (2 ^ 32)) (sym (tables_are a))
           (below_released (unreleased a) (2 ^ 32) (below-insert_again (2 ^ 32) k.tables a.args.pid empty a.self.invariant.processes there));

@@ -13,6 +13,6 @@ returns-in-Some-Waits c =
     let table : option_copied c.get-table.result ≡ get S.tables c.args.pid =
     c.get-table.ensures.value ∙ ap (get c.self.inside.tables) (c.from.ensures ∙ c.pid.view_is) ∙ ap (λ (X : State). get X.tables c.args.pid) c.self.view_is in
     c.is_over.ensures
-    ∙ looked_at c.around.ensures.constants c.around.ensures.opens c.around.ensures.channels c.around.ensures.moment (option_copied c.get-table.result) c.in-Some-Waits.since c.in-Some-Waits.call
-    ∙ ap (λ (t : Option Table). is_over constants S.opens S.chans S.clock t c.in-Some-Waits.since c.in-Some-Waits.call) table
+    ∙ looked_at c.around.ensures.constants c.around.ensures.opens c.around.ensures.channels c.around.ensures.statuses c.around.ensures.moment (option_copied c.get-table.result) c.in-Some-Waits.since c.in-Some-Waits.call
+    ∙ ap (λ (t : Option Table). is_over constants S.opens S.chans S.statuses S.clock t c.in-Some-Waits.since c.in-Some-Waits.call) table
     ∙ ready_by constants S c.args.pid c.args.tid _ _ _ (sym c.in-Some-Waits.ensures ∙ ap Some c.in-Some-Waits.field-0-is)

@@ -31,8 +31,8 @@ loop-tid-smaller-in-Some-get c =
 pub loop-tid-preserved-in-Some-get : goal.loop-tid-preserved-in-Some-get
 loop-tid-preserved-in-Some-get c =
     let threads = c.args.self.now.threads in
-    let by = activity_by c.args.around.constants.now c.args.around.objects.now.kinds c.args.around.channels.now c.args.around.now (option_copied c.args.table) in
-    let does = activity_at c.args.around.constants.now c.args.around.objects.now.kinds c.args.around.channels.now c.args.around.now (option_copied c.args.table) threads in
+    let by = activity_by c.args.around.constants.now c.args.around.objects.now.kinds c.args.around.channels.now c.args.around.statuses.now c.args.around.now (option_copied c.args.table) in
+    let does = activity_at c.args.around.constants.now c.args.around.objects.now.kinds c.args.around.channels.now c.args.around.statuses.now c.args.around.now (option_copied c.args.table) threads in
     let next : Some c.in-Some.tid ≡ least_key (λ n _. is_above c.loop-tid.last n) threads =
     c.in-Some.ensures ∙ ap (λ (own : ProcessState). least_key (λ n _. is_above c.loop-tid.last n) own.threads) c.self.view_is in
     let found : get threads c.in-Some.tid ≡ Some c.in-Some-get.thread.now =
@@ -44,8 +44,8 @@ loop-tid-preserved-in-Some-get c =
 pub returns : goal.returns
 returns c =
     let threads = c.args.self.now.threads in
-    let by = activity_by c.args.around.constants.now c.args.around.objects.now.kinds c.args.around.channels.now c.args.around.now (option_copied c.args.table) in
-    let does = activity_at c.args.around.constants.now c.args.around.objects.now.kinds c.args.around.channels.now c.args.around.now (option_copied c.args.table) threads in
+    let by = activity_by c.args.around.constants.now c.args.around.objects.now.kinds c.args.around.channels.now c.args.around.statuses.now c.args.around.now (option_copied c.args.table) in
+    let does = activity_at c.args.around.constants.now c.args.around.objects.now.kinds c.args.around.channels.now c.args.around.statuses.now c.args.around.now (option_copied c.args.table) threads in
     are_all threads c.loop-tid.last _ does (λ t. t) (λ t none. ap by none) c.loop-tid.found
     (c.in_default.ensures ∙ ap (λ (own : ProcessState). least_key (λ n _. is_above c.loop-tid.last n) own.threads) c.self.view_is)
     c.loop-tid.invariant

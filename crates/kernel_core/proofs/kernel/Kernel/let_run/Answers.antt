@@ -7,8 +7,8 @@ use Rattle.kernel_model.proofs.Tests.{none_of}
 use Rattle.kernel_core.specs.Kernel.{IsKept}
 use Rattle.kernel_core.specs.contracts.kernel.Kernel.{the_view}
 use Rattle.kernel_core.proofs.Parks.{after_kept, set_after, set_process_none}
-use Rattle.kernel_core.proofs.kernel.Kernel.resume.Goals as goal
-use Rattle.kernel_core.proofs.kernel.Kernel.resume.Goals.{After-resume}
+use Rattle.kernel_core.proofs.kernel.Kernel.let_run.Goals as goal
+use Rattle.kernel_core.proofs.kernel.Kernel.let_run.Goals.{After-resume}
 
 pub returns-then-not-contains-clause-runs : goal.returns-then-not-contains-clause-runs
 returns-then-not-contains-clause-runs c =

@@ -1,0 +1,3 @@
+pub mod PollReads
+pub mod Soonest
+pub mod Tellings

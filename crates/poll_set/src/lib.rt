@@ -1,0 +1,17 @@
+//! Polls: what a thread waits for, until when, what it is told, and where it is noted so that it is looked at again.
+//!
+//! A poll looks at its process's descriptors and at [`Surroundings`], and takes memory for the events of its answer alone.
+#![tactic(auto)]
+
+pub use clocks::{REAL_TIME, poll_deadline, soon};
+pub use notes::note_poll;
+pub use polls::{poll, poll_waits};
+pub use surroundings::Surroundings;
+
+mod clocks;
+mod ends;
+mod events;
+mod notes;
+mod polls;
+mod subscriptions;
+mod surroundings;
