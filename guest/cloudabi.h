@@ -3,8 +3,7 @@
  * says what each does; `guest/check-header` compares this text with its tables.
  *
  * Each function returns an error, CLOUDABI_ESUCCESS among them, and gives its results through pointers, which are written on
- * success only. A call that the sandbox doesn't have yet returns CLOUDABI_ENOSYS. Times are in nanoseconds. Lengths of texts
- * and paths are in bytes, without a zero byte at the end.
+ * success only. Times are in nanoseconds. Lengths of texts and paths are in bytes, without a zero byte at the end.
  */
 #ifndef CLOUDABI_H
 #define CLOUDABI_H

@@ -52,6 +52,8 @@ SECTIONS
     } :data :tls
     . = ADDR(.tbss) + SIZEOF(.tbss); /* the linker gives .tbss no room of its own */
     __tls_base = SIZEOF(.tdata) != 0 ? ADDR(.tdata) : ADDR(.tbss);
+    __tls_data_size = ABSOLUTE(SIZEOF(.tdata));
+    __tls_size = ABSOLUTE(ADDR(.tbss) + SIZEOF(.tbss) - __tls_base);
     .bss : ALIGN(16) {
         *(.sbss .sbss.* .bss .bss.* COMMON)
     } :data

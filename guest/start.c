@@ -1,7 +1,7 @@
 /*
  * The start of a program. It begins at `_start` with the vector's address in a0, a stack, and zero in every other register. The
  * thread pointer is set to the thread-local variables of the first thread, which guest.ld places. A thread that `thread_create`
- * makes has none, and mustn't use any, `errno` among them.
+ * makes has none, and mustn't use any, `errno` among them; one that `pthread_create` makes has its own.
  */
 #include "argdata.h"
 

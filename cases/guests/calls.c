@@ -541,6 +541,52 @@ static void read_received(void)
     put_message(count, CLOUDABI_ADDRESS(output) + RECV_OUT_SIZE, fds_count);
 }
 
+/* A subscription: the name of its kind, its userdata, and its fields. All other bytes have bits. */
+static void read_subscription(void)
+{
+    static const struct {
+        const char *name;
+        uint8_t kind;
+        int8_t fields[10];
+    } kinds[] = {
+        {"clock ", CLOUDABI_EVENTTYPE_CLOCK, {-8, 4, -4, 8, 8, 2, -6, 0}},
+        {"condvar ", CLOUDABI_EVENTTYPE_CONDVAR, {8, 8, 1, 1, -22, 0}},
+        {"read ", CLOUDABI_EVENTTYPE_FD_READ, {4, -36, 0}},
+        {"write ", CLOUDABI_EVENTTYPE_FD_WRITE, {4, -36, 0}},
+        {"rdlock ", CLOUDABI_EVENTTYPE_LOCK_RDLOCK, {8, 1, -31, 0}},
+        {"wrlock ", CLOUDABI_EVENTTYPE_LOCK_WRLOCK, {8, 1, -31, 0}},
+        {"end ", CLOUDABI_EVENTTYPE_PROC_TERMINATE, {4, -36, 0}},
+    };
+    size_t which = 0;
+    while (which < LENGTH(kinds) && !skip(kinds[which].name))
+        ++which;
+    if (which == LENGTH(kinds))
+        cannot_read("a kind of subscription is unknown");
+    put_number(&arena, read_number(), 8);
+    put(&arena, kinds[which].kind);
+    for (size_t i = 0; i < 7; ++i)
+        put(&arena, 0xff);
+    want(" ", "a field is missing");
+    read_fields(&arena, kinds[which].fields, 0xff);
+}
+
+/* The subscriptions, the output, and how many there are. */
+static void read_subscriptions(void)
+{
+    uint64_t count = 0;
+    begin_structure();
+    want("[", "subscriptions are missing");
+    if (!skip("]")) {
+        do {
+            read_subscription();
+            ++count;
+        } while (skip(","));
+        want("]", "subscriptions have no end");
+    }
+    fill(CLOUDABI_ADDRESS(output));
+    fill(count);
+}
+
 static void read_text_argument(void)
 {
     cloudabi_iovec_t range = read_bytes();
@@ -567,6 +613,7 @@ static void read_argument(char kind)
     case 'd': read_descriptor_list(); break;
     case 'm': read_sent(); break;
     case 'v': read_received(); break;
+    case 'q': read_subscriptions(); break;
     case 'p':
         begin_structure();
         read_pieces(&arena);
@@ -640,6 +687,45 @@ static void read_entry(void)
     want("}", "an entry has no end");
 }
 
+static uint64_t read_error(void)
+{
+    struct word word = read_word();
+    for (size_t i = 0; i < LENGTH(errors); ++i) {
+        if (is(word, errors[i].name + 1))
+            return errors[i].value;
+    }
+    at = word.start;
+    cannot_read("an error has an unknown name");
+}
+
+/* An event: its userdata, its error, its kind, and the fields of its kind. */
+static void read_event(void)
+{
+    static const int8_t of_end[] = {1, -3, 4, -8, 0}, of_channel[] = {8, 2, -6, 0};
+    size_t start = wanted.length;
+    put_number(&wanted, read_number(), 8);
+    want(" ", "an error is missing");
+    put_number(&wanted, read_error(), 2);
+    want(" ", "a kind is missing");
+    uint64_t kind = read_number();
+    put_number(&wanted, kind, 1);
+    while (wanted.length < start + 16)
+        put(&wanted, 0);
+    if (skip(" "))
+        read_fields(&wanted, kind == CLOUDABI_EVENTTYPE_PROC_TERMINATE ? of_end : of_channel, 0);
+    while (wanted.length < start + 32)
+        put(&wanted, 0);
+}
+
+static void read_events(void)
+{
+    want("{", "an event is missing");
+    do {
+        read_event();
+        want("}", "an event has no end");
+    } while (skip("{"));
+}
+
 /* What was received: its bytes, the descriptors and the flags. */
 static void read_message(void)
 {
@@ -677,6 +763,8 @@ static bool read_output(void)
         do {
             read_entry();
         } while (stands("{"));
+    } else if (skip("events ")) {
+        read_events();
     } else if (skip("stat ")) {
         wanted_fields = wanted.length == 0 ? filestat_fields : NULL;
         read_fields(&wanted, filestat_fields, 0);
@@ -687,17 +775,6 @@ static bool read_output(void)
         return false;
     }
     return true;
-}
-
-static uint64_t read_error(void)
-{
-    struct word word = read_word();
-    for (size_t i = 0; i < LENGTH(errors); ++i) {
-        if (is(word, errors[i].name + 1))
-            return errors[i].value;
-    }
-    at = word.start;
-    cannot_read("an error has an unknown name");
 }
 
 static void read_answer(const struct call *call)

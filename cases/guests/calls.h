@@ -106,7 +106,7 @@ static const struct call {
     {"mem_protect", 34, "nnn", 0},
     {"mem_sync", 35, "nnn", 0},
     {"mem_unmap", 36, "nn", 0},
-    {"poll", 37, "pon", 1},
+    {"poll", 37, "q", 1},
     {"proc_exec", 38, "ntd", 0},
     {"proc_exit", 39, "n", 0},
     {"proc_fork", 40, "", 2},

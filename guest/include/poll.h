@@ -1,6 +1,9 @@
-/* Files and standard streams are always ready; an end of a pipe or of a pair of sockets is ENOSYS. */
+/* Files and standard streams are always ready. */
 #ifndef _POLL_H
 #define _POLL_H
+
+#include <signal.h>
+#include <time.h>
 
 #ifdef __cplusplus
 extern "C" {
@@ -23,6 +26,7 @@ typedef unsigned long nfds_t;
 #define POLLWRNORM 0x100
 
 int poll(struct pollfd fds[], nfds_t count, int timeout);
+int ppoll(struct pollfd fds[], nfds_t count, const struct timespec *time, const sigset_t *mask);
 
 #ifdef __cplusplus
 }

@@ -1,7 +1,4 @@
-/*
- * Threads, as far as one thread needs them: locks, keys, and what is done once. A program has one thread, so pthread_create is EAGAIN,
- * and waiting for another is refused.
- */
+/* Threads, and what they wait for each other with. */
 #ifndef _PTHREAD_H
 #define _PTHREAD_H
 
@@ -15,14 +12,24 @@ extern "C" {
 
 typedef unsigned long pthread_t;
 typedef unsigned pthread_key_t;
-typedef int pthread_once_t;
-typedef int pthread_mutexattr_t, pthread_condattr_t, pthread_rwlockattr_t;
-typedef int pthread_cond_t, pthread_rwlock_t, pthread_spinlock_t;
+typedef int pthread_mutexattr_t, pthread_condattr_t, pthread_rwlockattr_t, pthread_barrierattr_t;
+typedef unsigned pthread_rwlock_t, pthread_spinlock_t; /* a lock's word */
 
 typedef struct {
     int type;
-    int holds; /* how often it is locked */
+    unsigned word;
+    int again; /* how often it is locked beyond the first time */
 } pthread_mutex_t;
+
+typedef struct {
+    unsigned word;
+    int clock;
+} pthread_cond_t;
+
+typedef struct {
+    unsigned word;
+    int is_done;
+} pthread_once_t;
 
 typedef struct {
     size_t stack_size;
@@ -30,19 +37,26 @@ typedef struct {
 } pthread_attr_t;
 
 typedef struct {
-    unsigned count;
+    unsigned word, all_came, all_left;
+    unsigned count, waiting, leaving, round;
 } pthread_barrier_t;
-typedef int pthread_barrierattr_t;
+
+struct __pthread_cleanup {
+    void (*__function)(void *);
+    void *__argument;
+    struct __pthread_cleanup *__next;
+};
 
 #define PTHREAD_MUTEX_NORMAL 0
 #define PTHREAD_MUTEX_ERRORCHECK 1
 #define PTHREAD_MUTEX_RECURSIVE 2
 #define PTHREAD_MUTEX_DEFAULT PTHREAD_MUTEX_NORMAL
-#define PTHREAD_MUTEX_INITIALIZER {PTHREAD_MUTEX_DEFAULT, 0}
-#define PTHREAD_RECURSIVE_MUTEX_INITIALIZER_NP {PTHREAD_MUTEX_RECURSIVE, 0}
+#define PTHREAD_MUTEX_INITIALIZER {PTHREAD_MUTEX_DEFAULT, 0, 0}
+#define PTHREAD_RECURSIVE_MUTEX_INITIALIZER_NP {PTHREAD_MUTEX_RECURSIVE, 0, 0}
+#define PTHREAD_ERRORCHECK_MUTEX_INITIALIZER_NP {PTHREAD_MUTEX_ERRORCHECK, 0, 0}
 #define PTHREAD_RWLOCK_INITIALIZER 0
-#define PTHREAD_COND_INITIALIZER 0
-#define PTHREAD_ONCE_INIT 0
+#define PTHREAD_COND_INITIALIZER {0, 0}
+#define PTHREAD_ONCE_INIT {0, 0}
 #define PTHREAD_CREATE_JOINABLE 0
 #define PTHREAD_CREATE_DETACHED 1
 #define PTHREAD_CANCEL_ENABLE 0
@@ -54,6 +68,8 @@ typedef int pthread_barrierattr_t;
 #define PTHREAD_PROCESS_SHARED 1
 #define PTHREAD_BARRIER_SERIAL_THREAD (-1)
 #define PTHREAD_KEYS_MAX 128
+#define PTHREAD_DESTRUCTOR_ITERATIONS 4
+#define PTHREAD_THREADS_MAX 64
 #define PTHREAD_STACK_MIN 16384
 
 int pthread_mutex_init(pthread_mutex_t *mutex, const pthread_mutexattr_t *attributes);
@@ -61,6 +77,7 @@ int pthread_mutex_destroy(pthread_mutex_t *mutex);
 int pthread_mutex_lock(pthread_mutex_t *mutex);
 int pthread_mutex_trylock(pthread_mutex_t *mutex);
 int pthread_mutex_timedlock(pthread_mutex_t *mutex, const struct timespec *time);
+int pthread_mutex_clocklock(pthread_mutex_t *mutex, clockid_t clock, const struct timespec *time);
 int pthread_mutex_unlock(pthread_mutex_t *mutex);
 int pthread_mutexattr_init(pthread_mutexattr_t *attributes);
 int pthread_mutexattr_destroy(pthread_mutexattr_t *attributes);
@@ -72,6 +89,10 @@ int pthread_rwlock_rdlock(pthread_rwlock_t *lock);
 int pthread_rwlock_tryrdlock(pthread_rwlock_t *lock);
 int pthread_rwlock_wrlock(pthread_rwlock_t *lock);
 int pthread_rwlock_trywrlock(pthread_rwlock_t *lock);
+int pthread_rwlock_timedrdlock(pthread_rwlock_t *lock, const struct timespec *time);
+int pthread_rwlock_timedwrlock(pthread_rwlock_t *lock, const struct timespec *time);
+int pthread_rwlock_clockrdlock(pthread_rwlock_t *lock, clockid_t clock, const struct timespec *time);
+int pthread_rwlock_clockwrlock(pthread_rwlock_t *lock, clockid_t clock, const struct timespec *time);
 int pthread_rwlock_unlock(pthread_rwlock_t *lock);
 int pthread_cond_init(pthread_cond_t *condition, const pthread_condattr_t *attributes);
 int pthread_cond_destroy(pthread_cond_t *condition);
@@ -79,6 +100,7 @@ int pthread_cond_signal(pthread_cond_t *condition);
 int pthread_cond_broadcast(pthread_cond_t *condition);
 int pthread_cond_wait(pthread_cond_t *condition, pthread_mutex_t *mutex);
 int pthread_cond_timedwait(pthread_cond_t *condition, pthread_mutex_t *mutex, const struct timespec *time);
+int pthread_cond_clockwait(pthread_cond_t *condition, pthread_mutex_t *mutex, clockid_t clock, const struct timespec *time);
 int pthread_once(pthread_once_t *once, void (*function)(void));
 int pthread_key_create(pthread_key_t *key, void (*function)(void *));
 int pthread_key_delete(pthread_key_t key);
@@ -86,6 +108,9 @@ void *pthread_getspecific(pthread_key_t key);
 int pthread_setspecific(pthread_key_t key, const void *value);
 int pthread_create(pthread_t *thread, const pthread_attr_t *attributes, void *(*function)(void *), void *argument);
 int pthread_join(pthread_t thread, void **value);
+int pthread_tryjoin_np(pthread_t thread, void **value);
+int pthread_timedjoin_np(pthread_t thread, void **value, const struct timespec *time);
+int pthread_clockjoin_np(pthread_t thread, void **value, clockid_t clock, const struct timespec *time);
 int pthread_detach(pthread_t thread);
 pthread_t pthread_self(void);
 int pthread_equal(pthread_t left, pthread_t right);
@@ -101,13 +126,20 @@ int pthread_attr_setdetachstate(pthread_attr_t *attributes, int state);
 int pthread_attr_getdetachstate(const pthread_attr_t *attributes, int *state);
 int pthread_attr_setstacksize(pthread_attr_t *attributes, size_t size);
 int pthread_attr_getstacksize(const pthread_attr_t *attributes, size_t *size);
+int pthread_attr_setguardsize(pthread_attr_t *attributes, size_t size);
+int pthread_attr_getguardsize(const pthread_attr_t *attributes, size_t *size);
 int pthread_condattr_init(pthread_condattr_t *attributes);
 int pthread_condattr_destroy(pthread_condattr_t *attributes);
 int pthread_condattr_setclock(pthread_condattr_t *attributes, clockid_t clock);
+int pthread_condattr_getclock(const pthread_condattr_t *attributes, clockid_t *clock);
 int pthread_condattr_setpshared(pthread_condattr_t *attributes, int shared);
 int pthread_mutexattr_setpshared(pthread_mutexattr_t *attributes, int shared);
 int pthread_rwlockattr_init(pthread_rwlockattr_t *attributes);
 int pthread_rwlockattr_destroy(pthread_rwlockattr_t *attributes);
+int pthread_rwlockattr_setpshared(pthread_rwlockattr_t *attributes, int shared);
+int pthread_barrierattr_init(pthread_barrierattr_t *attributes);
+int pthread_barrierattr_destroy(pthread_barrierattr_t *attributes);
+int pthread_barrierattr_setpshared(pthread_barrierattr_t *attributes, int shared);
 int pthread_spin_init(pthread_spinlock_t *lock, int shared);
 int pthread_spin_destroy(pthread_spinlock_t *lock);
 int pthread_spin_lock(pthread_spinlock_t *lock);
@@ -117,14 +149,16 @@ int pthread_barrier_init(pthread_barrier_t *barrier, const pthread_barrierattr_t
 int pthread_barrier_destroy(pthread_barrier_t *barrier);
 int pthread_barrier_wait(pthread_barrier_t *barrier);
 
-/* What is done where the function between them is left by `pthread_exit`, which ends the process here, or by a word at the end. */
+void __pthread_cleanup_push(struct __pthread_cleanup *cleanup, void (*function)(void *), void *argument);
+void __pthread_cleanup_pop(struct __pthread_cleanup *cleanup, int is_done);
+
+/* What is done where the function between them is left by the thread's end, or by a word at the end. */
 #define pthread_cleanup_push(function, argument)                                                                                   \
     do {                                                                                                                           \
-        void (*__cleanup)(void *) = (function);                                                                                    \
-        void *__argument = (argument)
+        struct __pthread_cleanup __cleanup;                                                                                        \
+        __pthread_cleanup_push(&__cleanup, function, argument)
 #define pthread_cleanup_pop(is_done)                                                                                               \
-    if (is_done)                                                                                                                   \
-        __cleanup(__argument);                                                                                                     \
+    __pthread_cleanup_pop(&__cleanup, is_done);                                                                                    \
     } while (0)
 
 #ifdef __cplusplus

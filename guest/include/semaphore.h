@@ -1,4 +1,4 @@
-/* Semaphores, for one thread: waiting where none is free would have no end, and is EDEADLK. */
+/* Semaphores of one process. */
 #ifndef _SEMAPHORE_H
 #define _SEMAPHORE_H
 
@@ -9,7 +9,7 @@ extern "C" {
 #endif
 
 typedef struct {
-    unsigned value;
+    unsigned word, condition, value;
 } sem_t;
 
 #define SEM_VALUE_MAX 0x7fffffff
@@ -19,6 +19,7 @@ int sem_destroy(sem_t *semaphore);
 int sem_wait(sem_t *semaphore);
 int sem_trywait(sem_t *semaphore);
 int sem_timedwait(sem_t *semaphore, const struct timespec *time);
+int sem_clockwait(sem_t *semaphore, clockid_t clock, const struct timespec *time);
 int sem_post(sem_t *semaphore);
 int sem_getvalue(sem_t *semaphore, int *value);
 

@@ -1,7 +1,9 @@
-/* picolibc's signal.h, with the sigaction of POSIX. */
+/* picolibc's signal.h, with the sigaction and the siginfo_t of POSIX. */
 #define sigaction __picolibc_sigaction
+#define siginfo_t __picolibc_siginfo_t
 #include_next <signal.h>
 #undef sigaction
+#undef siginfo_t
 
 #ifndef _GUEST_SIGNAL_H
 #define _GUEST_SIGNAL_H
@@ -11,11 +13,21 @@ extern "C" {
 #endif
 
 #if __POSIX_VISIBLE || __MISC_VISIBLE
-#if __POSIX_VISIBLE < 199309
 typedef struct {
-    int si_signo, si_code;
+    int si_signo, si_code, si_errno;
+    pid_t si_pid;
+    uid_t si_uid;
+    int si_status;
+    void *si_addr;
+    union {
+        int sival_int;
+        void *sival_ptr;
+    } si_value;
 } siginfo_t;
-#endif
+
+#define CLD_EXITED 1
+#define CLD_KILLED 2
+#define CLD_DUMPED 3
 
 struct sigaction {
     union {

@@ -1,4 +1,4 @@
-/* C's threads, as far as one thread needs them: locks, keys, and what is done once. A thread can't be made, and waiting is refused. */
+/* C's threads: those of pthread.h, by other names. */
 #ifndef _THREADS_H
 #define _THREADS_H
 
@@ -20,7 +20,7 @@ typedef void (*tss_dtor_t)(void *);
 typedef pthread_once_t once_flag;
 
 #define ONCE_FLAG_INIT PTHREAD_ONCE_INIT
-#define TSS_DTOR_ITERATIONS 1
+#define TSS_DTOR_ITERATIONS PTHREAD_DESTRUCTOR_ITERATIONS
 
 enum { thrd_success, thrd_busy, thrd_error, thrd_nomem, thrd_timedout };
 enum { mtx_plain = 0, mtx_recursive = 1, mtx_timed = 2 };

@@ -5,6 +5,7 @@
  * Spans stand from SPANS on, above every program and below where mem_map looks for room; large blocks stand above that.
  */
 #define _GNU_SOURCE
+#include "library_lock.h"
 #include "system.h"
 
 #include <errno.h>
@@ -230,6 +231,7 @@ static void *allocate_large(size_t size, size_t alignment)
 
 static void *allocate(size_t size, size_t alignment)
 {
+    HOLD(&allocation_lock);
     void *found = NULL;
     if (size <= PTRDIFF_MAX - PAGE - alignment) {
         if (size <= LARGEST_SMALL && alignment <= ALIGNMENT)
@@ -256,6 +258,7 @@ void free(void *address)
     if (address == NULL)
         return;
     if (is_small(address)) {
+        HOLD(&allocation_lock);
         free_small(address);
     } else {
         int error = errno;

@@ -14,7 +14,7 @@
 #define MOST_RANDOM 65536         /* bytes of one call */
 
 /* The sandbox's clock for one of C's, and 0, which it refuses, for a number of none. The time of the run stands for the processor's. */
-static uint32_t sandbox_clock(clockid_t clock)
+uint32_t sandbox_clock(clockid_t clock)
 {
     if (clock == CLOCK_REALTIME || clock == CLOCK_REALTIME_COARSE || clock == CLOCK_REALTIME_ALARM)
         return CLOUDABI_CLOCK_REALTIME;
@@ -127,7 +127,7 @@ static bool is_time(const struct timespec *time)
     return time->tv_sec >= 0 && time->tv_nsec >= 0 && time->tv_nsec < (long)NANOSECONDS;
 }
 
-static cloudabi_timestamp_t nanoseconds_of(const struct timespec *time)
+cloudabi_timestamp_t nanoseconds_of(const struct timespec *time)
 {
     uint64_t seconds = (uint64_t)time->tv_sec;
     return seconds >= NEVER / NANOSECONDS ? NEVER : seconds * NANOSECONDS + (uint64_t)time->tv_nsec;

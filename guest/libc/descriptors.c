@@ -1,5 +1,6 @@
 /* File descriptors: a table from the numbers of C to those of the sandbox. */
 #define _GNU_SOURCE
+#include "library_lock.h"
 #include "system.h"
 
 #include <errno.h>
@@ -45,12 +46,14 @@ int result_of_file(int fd, cloudabi_errno_t error, int otherwise)
 
 void set_descriptor(int fd, cloudabi_fd_t to, bool closes_on_exec)
 {
+    HOLD(&descriptors_lock);
     free(table[fd].path);
     table[fd] = (struct entry){to + 1, closes_on_exec, NULL};
 }
 
 int take_descriptor(cloudabi_fd_t fd, int least, bool closes_on_exec)
 {
+    HOLD(&descriptors_lock);
     for (int free_one = least; free_one < MOST_DESCRIPTORS; ++free_one) {
         if (table[free_one].fd == 0) {
             set_descriptor(free_one, fd, closes_on_exec);
@@ -69,12 +72,14 @@ const char *directory_path(int fd)
 
 void keep_directory_path(int fd, const char *path)
 {
+    HOLD(&descriptors_lock);
     free(table[fd].path);
     table[fd].path = strdup(path);
 }
 
 int close(int fd)
 {
+    HOLD(&descriptors_lock);
     int answer = result(cloudabi_sys_fd_close(descriptor(fd)));
     if (answer == 0) {
         free(table[fd].path);
@@ -91,6 +96,7 @@ static int copy_of(int fd, cloudabi_fd_t *copy)
 
 static int duplicate(int fd, int least, bool closes_on_exec)
 {
+    HOLD(&descriptors_lock);
     cloudabi_fd_t copy;
     if (least < 0 || least >= MOST_DESCRIPTORS) {
         errno = EINVAL;
@@ -111,6 +117,7 @@ int dup(int fd)
 
 static int replace(int fd, int to, bool closes_on_exec)
 {
+    HOLD(&descriptors_lock);
     cloudabi_fd_t copy;
     if (to < 0 || to >= MOST_DESCRIPTORS || !is_open(fd)) {
         errno = EBADF;

@@ -16,7 +16,14 @@ static const uint8_t errno_of[] = {
     [CLOUDABI_ENOTCAPABLE] = EACCES,
 };
 
+int error_number(cloudabi_errno_t error)
+{
+    if (error == CLOUDABI_ESUCCESS)
+        return 0;
+    return error < sizeof errno_of && errno_of[error] != 0 ? errno_of[error] : EIO;
+}
+
 void set_errno(cloudabi_errno_t error)
 {
-    errno = error < sizeof errno_of && errno_of[error] != 0 ? errno_of[error] : EIO;
+    errno = error_number(error);
 }

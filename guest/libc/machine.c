@@ -4,6 +4,8 @@
 
 #include <errno.h>
 #include <limits.h>
+#include <pthread.h>
+#include <semaphore.h>
 #include <string.h>
 #include <sys/utsname.h>
 #include <unistd.h>
@@ -31,11 +33,12 @@ int getpagesize(void)
     return PAGE;
 }
 
+/* -1 without an error stands for what isn't there. */
 long sysconf(int name)
 {
     switch (name) {
     case _SC_ARG_MAX: return 65536;
-    case _SC_CHILD_MAX: return 0;
+    case _SC_CHILD_MAX: return 254;
     case _SC_CLK_TCK: return 100;
     case _SC_OPEN_MAX: case _SC_STREAM_MAX: return MOST_DESCRIPTORS;
     case _SC_PAGESIZE: return PAGE;
@@ -48,10 +51,16 @@ long sysconf(int name)
     case _SC_SYMLOOP_MAX: return 32;
     case _SC_HOST_NAME_MAX: case _SC_LOGIN_NAME_MAX: case _SC_TTY_NAME_MAX: return 255;
     case _SC_GETPW_R_SIZE_MAX: case _SC_GETGR_R_SIZE_MAX: return 1024;
-    case _SC_THREAD_KEYS_MAX: return 128;
-    case _SC_MAPPED_FILES: case _SC_FSYNC: case _SC_MEMORY_PROTECTION: case _SC_REGEXP: return 200809;
-    case _SC_JOB_CONTROL: case _SC_SAVED_IDS: case _SC_THREADS: case _SC_SHELL: case _SC_SPAWN: case _SC_TIMERS: case _SC_MONOTONIC_CLOCK:
-        return -1;
+    case _SC_THREAD_KEYS_MAX: return PTHREAD_KEYS_MAX;
+    case _SC_THREAD_STACK_MIN: return PTHREAD_STACK_MIN;
+    case _SC_THREAD_THREADS_MAX: return PTHREAD_THREADS_MAX;
+    case _SC_THREAD_DESTRUCTOR_ITERATIONS: return PTHREAD_DESTRUCTOR_ITERATIONS;
+    case _SC_SEM_VALUE_MAX: return SEM_VALUE_MAX;
+    case _SC_MAPPED_FILES: case _SC_FSYNC: case _SC_MEMORY_PROTECTION: case _SC_REGEXP: case _SC_THREADS: case _SC_THREAD_ATTR_STACKSIZE:
+    case _SC_THREAD_SAFE_FUNCTIONS: case _SC_BARRIERS: case _SC_READER_WRITER_LOCKS: case _SC_SPIN_LOCKS: case _SC_SEMAPHORES:
+    case _SC_TIMEOUTS: case _SC_CLOCK_SELECTION: case _SC_MONOTONIC_CLOCK:
+        return 200809;
+    case _SC_JOB_CONTROL: case _SC_SAVED_IDS: case _SC_SHELL: case _SC_SPAWN: case _SC_TIMERS: case _SC_THREAD_PROCESS_SHARED: return -1;
     default: errno = EINVAL; return -1;
     }
 }

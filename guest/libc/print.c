@@ -25,6 +25,7 @@ static void put_in_stream(struct sink *sink, const char *bytes, size_t size)
 
 int vfprintf(FILE *restrict file, const char *restrict format, va_list arguments)
 {
+    HOLD(&file->lock);
     struct stream_sink to = {{put_in_stream, 0, false}, file, false};
     if (!begin_writing(file))
         return -1;

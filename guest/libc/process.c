@@ -1,5 +1,6 @@
 /* The process: its end, its group, what it may use, and what needs a shell. */
 #define _GNU_SOURCE
+#include "library_lock.h"
 #include "system.h"
 
 #include <errno.h>
@@ -132,6 +133,8 @@ int sched_get_priority_min(int policy)
 
 int sched_yield(void)
 {
+    if (has_threads)
+        cloudabi_sys_thread_yield();
     return 0;
 }
 

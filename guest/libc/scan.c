@@ -384,6 +384,7 @@ static int scan_all(struct scan *scan, const char *format)
 
 int vfscanf(FILE *restrict file, const char *restrict format, va_list arguments)
 {
+    HOLD(&file->lock);
     struct scan scan = {.file = file};
     if (!begin_reading(file))
         return EOF;

@@ -5,8 +5,8 @@
 #ifndef STREAM_H
 #define STREAM_H
 
-#include <stdbool.h>
-#include <stdint.h>
+#include "library_lock.h"
+
 #include <stdio.h>
 #include <sys/types.h>
 
@@ -32,6 +32,7 @@ struct __file {
     bool is_reading, is_writing;
     bool is_at_end, has_failed;
     bool owns_buffer, is_allocated;
+    struct library_lock lock;
     struct __file *next;
 };
 

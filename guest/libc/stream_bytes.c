@@ -7,6 +7,7 @@
 
 int fgetc(FILE *file)
 {
+    HOLD(&file->lock);
     if (!file->is_reading && !begin_reading(file))
         return EOF;
     if (file->begin == file->end && !fill(file))
@@ -16,6 +17,7 @@ int fgetc(FILE *file)
 
 int ungetc(int byte, FILE *file)
 {
+    HOLD(&file->lock);
     if (byte == EOF || !begin_reading(file) || file->begin == 0)
         return EOF;
     --file->begin;
@@ -46,6 +48,7 @@ static size_t read_some(FILE *file, char *bytes, size_t size)
 
 size_t fread(void *restrict bytes, size_t size, size_t count, FILE *restrict file)
 {
+    HOLD(&file->lock);
     size_t wanted, done = 0;
     if (__builtin_mul_overflow(size, count, &wanted) || wanted == 0 || !begin_reading(file))
         return 0;
@@ -60,6 +63,7 @@ size_t fread(void *restrict bytes, size_t size, size_t count, FILE *restrict fil
 
 int fputc(int byte, FILE *file)
 {
+    HOLD(&file->lock);
     char it = (char)byte;
     if (file->is_writing && file->buffering == _IOFBF && file->end + 1 < file->capacity) {
         file->buffer[file->end++] = (unsigned char)byte;
@@ -72,6 +76,7 @@ int fputc(int byte, FILE *file)
 
 size_t fwrite(const void *restrict bytes, size_t size, size_t count, FILE *restrict file)
 {
+    HOLD(&file->lock);
     size_t all;
     if (__builtin_mul_overflow(size, count, &all) || all == 0 || !begin_writing(file))
         return 0;
@@ -80,6 +85,7 @@ size_t fwrite(const void *restrict bytes, size_t size, size_t count, FILE *restr
 
 int fputs(const char *restrict text, FILE *restrict file)
 {
+    HOLD(&file->lock);
     size_t length = strlen(text);
     if (length == 0)
         return begin_writing(file) ? 0 : EOF;
@@ -88,6 +94,7 @@ int fputs(const char *restrict text, FILE *restrict file)
 
 int puts(const char *text)
 {
+    HOLD(&stdout->lock);
     size_t length = strlen(text);
     if (!begin_writing(stdout) || !put_bytes(stdout, text, length) || !put_bytes(stdout, "\n", 1))
         return EOF;

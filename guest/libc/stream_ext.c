@@ -1,4 +1,4 @@
-/* What is known of a stream by the names of stdio_ext.h, and the functions that take no lock: a program has one thread. */
+/* What is known of a stream by the names of stdio_ext.h, its lock, and the functions that needn't take it, and do all the same. */
 #include "stream.h"
 
 #include <stdio_ext.h>
@@ -40,6 +40,7 @@ int __fwriting(FILE *file)
 
 void __fpurge(FILE *file)
 {
+    HOLD(&file->lock);
     file->begin = file->end = file->is_reading ? UNGET_ROOM : 0;
 }
 
@@ -85,18 +86,17 @@ int __fsetlocking(FILE *file, int kind)
 
 void flockfile(FILE *file)
 {
-    (void)file;
+    take_lock(&file->lock);
 }
 
 int ftrylockfile(FILE *file)
 {
-    (void)file;
-    return 0;
+    return try_to_take(&file->lock) ? 0 : -1;
 }
 
 void funlockfile(FILE *file)
 {
-    (void)file;
+    let_go(&file->lock);
 }
 
 /* Defines a function with another name as this one. */

@@ -20,6 +20,7 @@ static size_t bytes_of_line(FILE *file, int end, size_t most)
 
 char *fgets(char *restrict line, int size, FILE *restrict file)
 {
+    HOLD(&file->lock);
     size_t length = 0;
     if (size <= 0 || !begin_reading(file))
         return NULL;
@@ -43,6 +44,7 @@ char *fgets(char *restrict line, int size, FILE *restrict file)
 
 char *gets(char *line)
 {
+    HOLD(&stdin->lock);
     size_t length = 0;
     int byte;
     while ((byte = fgetc(stdin)) != EOF && byte != '\n')
@@ -73,6 +75,7 @@ static bool has_room(char **line, size_t *capacity, size_t length, size_t more)
 
 ssize_t getdelim(char **restrict line, size_t *restrict capacity, int end, FILE *restrict file)
 {
+    HOLD(&file->lock);
     size_t length = 0;
     if (line == NULL || capacity == NULL) {
         errno = EINVAL;

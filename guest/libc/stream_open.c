@@ -65,6 +65,7 @@ FILE *new_stream(const struct stream_source *source, void *cookie, int flags)
     file->fd = -1;
     file->is_allocated = true;
     take_flags(file, flags);
+    HOLD(&streams_lock);
     file->next = all_streams;
     all_streams = file;
     return file;
@@ -119,14 +120,26 @@ static int end_stream(FILE *file)
     return failed;
 }
 
-int fclose(FILE *file)
+static void take_off_list(const FILE *file)
 {
+    HOLD(&streams_lock);
     FILE **place = &all_streams;
     while (*place != NULL && *place != file)
         place = &(*place)->next;
     if (*place != NULL)
         *place = file->next;
-    int failed = end_stream(file);
+}
+
+static int end_alone(FILE *file)
+{
+    HOLD(&file->lock);
+    return end_stream(file);
+}
+
+int fclose(FILE *file)
+{
+    take_off_list(file);
+    int failed = end_alone(file);
     if (file->is_allocated)
         free(file);
     return failed;
@@ -161,7 +174,7 @@ FILE *freopen(const char *restrict path, const char *restrict mode, FILE *restri
         fd = number;
     }
     struct __file fresh = {.source = &file_source, .cookie = file, .fd = fd, .buffering = file->buffering,
-                           .is_allocated = file->is_allocated, .next = file->next};
+                           .is_allocated = file->is_allocated, .lock = file->lock, .next = file->next};
     *file = fresh;
     take_flags(file, flags);
     return file;
@@ -179,13 +192,21 @@ static int give_back(FILE *file)
     return 0;
 }
 
+static int flush(FILE *file)
+{
+    HOLD(&file->lock);
+    return file->is_writing ? write_pending(file) : give_back(file);
+}
+
+/* A stream that reads isn't waited for. */
 int fflush(FILE *file)
 {
     int failed = 0;
     if (file != NULL)
-        return file->is_writing ? write_pending(file) : give_back(file);
+        return flush(file);
+    HOLD(&streams_lock);
     for (file = all_streams; file != NULL; file = file->next) {
-        if (file->is_writing && write_pending(file) != 0)
+        if (file->is_writing && flush(file) != 0)
             failed = EOF;
     }
     return failed;
@@ -196,9 +217,20 @@ int fcloseall(void)
     return fflush(NULL);
 }
 
+/* At the exit, which no thread holds up. */
 __attribute__((destructor)) static void flush_all(void)
 {
-    fflush(NULL);
+    for (FILE *file = all_streams; file != NULL; file = file->next) {
+        if (file->is_writing)
+            write_pending(file);
+    }
+}
+
+/* The locks of a child are free, whatever threads of its parent had. */
+void free_streams(void)
+{
+    for (FILE *file = all_streams; file != NULL; file = file->next)
+        file->lock = (struct library_lock){0};
 }
 
 int setvbuf(FILE *restrict file, char *restrict buffer, int mode, size_t size)

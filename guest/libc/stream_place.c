@@ -8,6 +8,7 @@
 
 int fseeko(FILE *file, off_t offset, int whence)
 {
+    HOLD(&file->lock);
     if (file->source->seek == NULL) {
         errno = ESPIPE;
         return -1;
@@ -27,6 +28,7 @@ int fseeko(FILE *file, off_t offset, int whence)
 /* A stream that appends is at the file's end, before its first write too. */
 off_t ftello(FILE *file)
 {
+    HOLD(&file->lock);
     off_t place = 0;
     if (file->source->seek == NULL) {
         errno = ESPIPE;
@@ -52,6 +54,7 @@ long ftell(FILE *file)
 
 void rewind(FILE *file)
 {
+    HOLD(&file->lock);
     fseeko(file, 0, SEEK_SET);
     clearerr(file);
 }
@@ -69,6 +72,7 @@ int fsetpos(FILE *file, const fpos_t *place)
 
 void clearerr(FILE *file)
 {
+    HOLD(&file->lock);
     file->is_at_end = file->has_failed = false;
 }
 

@@ -14,13 +14,17 @@
 
 #include <stdbool.h>
 #include <sys/types.h>
+#include <time.h>
 
 #define NO_DESCRIPTOR UINT32_MAX
 #define MOST_DESCRIPTORS 1024
 #define PATH_ROOM 4096
 #define PAGE 4096
 
-/* Sets errno to what the sandbox's error is in C. */
+/* The number of errno.h for an error of the sandbox, and 0 for none. */
+int error_number(cloudabi_errno_t error);
+
+/* Sets errno to it. */
 void set_errno(cloudabi_errno_t error);
 
 /* -1 with errno set, or 0. */
@@ -62,11 +66,18 @@ void set_descriptor(int fd, cloudabi_fd_t to, bool closes_on_exec);
 const char *directory_path(int fd);
 void keep_directory_path(int fd, const char *path);
 
-/* A child has none of its parent's signals that wait. */
+/* A child has none of its parent's signals that wait, and no thread of its parent has a stream. */
 void drop_pending_signals(void);
+void free_streams(void) __attribute__((weak));
 
 /* The number in C of a signal of the sandbox. */
 int signal_of_sandbox(uint8_t signal);
+
+/* The sandbox's clock for one of C's, and 0, which it refuses, for a number of none. */
+uint32_t sandbox_clock(clockid_t clock);
+
+/* A time from 0 on, in nanoseconds; one that never comes, where it has too many. */
+cloudabi_timestamp_t nanoseconds_of(const struct timespec *time);
 
 /* Where a path leads: a directory's descriptor, and the path below it. */
 struct place {

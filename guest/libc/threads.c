@@ -2,7 +2,7 @@
 #define _GNU_SOURCE
 #include <errno.h>
 #include <sched.h>
-#include <stdlib.h>
+#include <stdint.h>
 #include <threads.h>
 
 static int outcome(int error)
@@ -16,10 +16,11 @@ static int outcome(int error)
     }
 }
 
+/* A function's int stands where its pointer would. */
 int thrd_create(thrd_t *thread, thrd_start_t function, void *argument)
 {
-    (void)thread, (void)function, (void)argument;
-    return thrd_error;
+    int error = pthread_create(thread, NULL, (void *(*)(void *))(void (*)(void))function, argument);
+    return error == EAGAIN ? thrd_nomem : outcome(error);
 }
 
 thrd_t thrd_current(void)
@@ -37,17 +38,18 @@ int thrd_equal(thrd_t left, thrd_t right)
     return pthread_equal(left, right);
 }
 
-/* The end of the one thread is that of the process. */
 void thrd_exit(int code)
 {
-    (void)code;
-    exit(0);
+    pthread_exit((void *)(intptr_t)code);
 }
 
 int thrd_join(thrd_t thread, int *code)
 {
-    (void)code;
-    return outcome(pthread_join(thread, NULL));
+    void *value;
+    int error = pthread_join(thread, &value);
+    if (error == 0 && code != NULL)
+        *code = (int)(intptr_t)value;
+    return outcome(error);
 }
 
 int thrd_sleep(const struct timespec *time, struct timespec *rest)

@@ -1,5 +1,6 @@
 /* Wide characters: conversions of whole texts, which tell a length where there is no room, and streams. */
 #define _GNU_SOURCE
+#include "stream.h"
 #include "wide.h"
 
 #include <errno.h>
@@ -25,6 +26,7 @@ size_t wcstombs(char *restrict to, const wchar_t *restrict from, size_t most)
 
 wint_t fgetwc(FILE *file)
 {
+    HOLD(&file->lock);
     mbstate_t state = {0};
     wchar_t found;
     for (;;) {
@@ -50,6 +52,7 @@ wint_t fputwc(wchar_t letter, FILE *file)
 
 int fputws(const wchar_t *restrict text, FILE *restrict file)
 {
+    HOLD(&file->lock);
     for (; *text != L'\0'; ++text) {
         if (fputwc(*text, file) == WEOF)
             return EOF;
@@ -59,6 +62,7 @@ int fputws(const wchar_t *restrict text, FILE *restrict file)
 
 wchar_t *fgetws(wchar_t *restrict text, int size, FILE *restrict file)
 {
+    HOLD(&file->lock);
     int length = 0;
     while (length + 1 < size) {
         wint_t letter = fgetwc(file);
@@ -76,6 +80,7 @@ wchar_t *fgetws(wchar_t *restrict text, int size, FILE *restrict file)
 
 wint_t ungetwc(wint_t letter, FILE *file)
 {
+    HOLD(&file->lock);
     char bytes[MB_LEN_MAX + 16];
     mbstate_t state = {0};
     size_t count = letter == WEOF ? (size_t)-1 : wcrtomb(bytes, (wchar_t)letter, &state);

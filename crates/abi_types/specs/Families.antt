@@ -114,11 +114,9 @@ answer_of (call.Refused number errno) = Some errno
 answer_of (call.Unknown number) = Some Nosys
 answer_of _ = None
 
--- the calls that aren't built yet
+-- the call that isn't built: there is no one descriptor that it could make
 abbrev pub is_unbuilt : Call → Bool
-is_unbuilt (call.CondvarSignal condvar word scope n) = true
 is_unbuilt (call.FdCreate1 kind) = true
-is_unbuilt (call.LockUnlock lock word scope) = true
 is_unbuilt _ = false
 
 -- ---- the part that does a call
@@ -144,5 +142,7 @@ IsOf c (family.ClockTime clock precision) = c ≡ call.ClockTimeGet clock precis
 IsOf c (family.Random length) = c ≡ call.RandomGet length
 IsOf c (family.NewThread attributes) = c ≡ call.ThreadCreate attributes
 IsOf c (family.ThreadExit lock word scope) = c ≡ call.ThreadExit lock word scope
+IsOf c (family.Unlock lock word scope) = c ≡ call.LockUnlock lock word scope
+IsOf c (family.Signal condvar word scope n) = c ≡ call.CondvarSignal condvar word scope n
 IsOf c (family.Answered errno) = answer_of c ≡ Some errno
 IsOf c family.NotBuilt = is_unbuilt c ≡ true

@@ -1,5 +1,6 @@
 //! Growing lists of values that are copied as they stand: of descriptors, of subscriptions and of events.
 ghost use Rattle.std.specs.Prelude.{◌≡◌, ◌++◌, ◌∷◌, [], length, OnOk, OnErr};
+ghost use Rattle.abi_types.specs.Lists.{with_first};
 
 use abi_structures::{Event, Subscription};
 use lists::TryClone;
@@ -62,6 +63,17 @@ impl<T> Copied<T> {
     {
         self.items.push(value)?;
         Ok(())
+    }
+
+    /// Puts a value in the place of the first, if there is one.
+    pub fn set_first(&mut self, value: T)
+    where
+        T: Copy,
+        ensures { self.new ≡ with_first value self.old }
+    {
+        if let Some(first) = self.items.as_mut_slice().first_mut() {
+            *first = value;
+        }
     }
 }
 

@@ -153,7 +153,9 @@ pub enum Family<'a> {
     /// Changes the process's descriptors.
     Descriptors(DescriptorChange),
     /// fd_stat_get: what a descriptor is and may do.
-    DescriptorState { fd: u32 },
+    DescriptorState {
+        fd: u32,
+    },
     /// Works on a file or a directory by an open.
     File(FileCall<'a>),
     /// Works at the offset of an open.
@@ -163,34 +165,69 @@ pub enum Family<'a> {
     /// Opens what a path leads to.
     Open(OpenCall<'a>),
     /// fd_create2: makes two ends, of a pipe or of a pair of sockets.
-    Ends { kind: u32 },
+    Ends {
+        kind: u32,
+    },
     /// Works on a socket.
     Socket(SocketCall<'a>),
     /// proc_exit: ends the process.
-    Exit { code: u32 },
+    Exit {
+        code: u32,
+    },
     /// proc_fork: makes a child of the process, which has so many turns left.
-    Fork { left: u64 },
+    Fork {
+        left: u64,
+    },
     /// proc_exec: lets a descriptor's program begin in the process, which has these descriptors then.
-    Exec { fd: u32, fds: &'a [u32] },
+    Exec {
+        fd: u32,
+        fds: &'a [u32],
+    },
     /// proc_raise: sends the process the signal with this number.
-    Raise { signal: u32 },
+    Raise {
+        signal: u32,
+    },
     /// mem_map of zeros, which go there.
     Zeros(Place),
     /// poll: waits for one of these.
     Poll(&'a [Subscription]),
     /// clock_res_get: how fine a clock is.
-    ClockResolution { clock: u32 },
+    ClockResolution {
+        clock: u32,
+    },
     /// clock_time_get: what a clock shows.
-    ClockTime { clock: u32, precision: u64 },
+    ClockTime {
+        clock: u32,
+        precision: u64,
+    },
     /// random_get: draws so many random bytes.
-    Random { length: u64 },
+    Random {
+        length: u64,
+    },
     /// thread_create: makes a thread, which begins so.
     NewThread(ThreadAttr),
     /// thread_exit: lets a lock go, whose word is this, and ends the thread.
-    ThreadExit { lock: u64, word: u32, scope: u32 },
+    ThreadExit {
+        lock: u64,
+        word: u32,
+        scope: u32,
+    },
+    /// lock_unlock: lets a lock go, whose word is this.
+    Unlock {
+        lock: u64,
+        word: u32,
+        scope: u32,
+    },
+    /// condvar_signal: signals so many of the threads that wait at a condition variable.
+    Signal {
+        condvar: u64,
+        word: u32,
+        scope: u32,
+        n: u32,
+    },
     /// Answers this, and changes nothing.
     Answered(Errno),
-    /// One of the calls that aren't built yet.
+    /// fd_create1, which makes nothing.
     NotBuilt,
 }
 
@@ -445,9 +482,23 @@ impl Call {
             | Call::ThreadYield => Family::Answered(Errno::Success),
             Call::Memory { errno, .. } | Call::Refused { errno, .. } => Family::Answered(*errno),
             Call::Unknown { .. } => Family::Answered(Errno::Nosys),
-            Call::CondvarSignal { .. } | Call::FdCreate1 { .. } | Call::LockUnlock { .. } => {
-                Family::NotBuilt
-            }
+            Call::LockUnlock { lock, word, scope } => Family::Unlock {
+                lock: *lock,
+                word: *word,
+                scope: *scope,
+            },
+            Call::CondvarSignal {
+                condvar,
+                word,
+                scope,
+                n,
+            } => Family::Signal {
+                condvar: *condvar,
+                word: *word,
+                scope: *scope,
+                n: *n,
+            },
+            Call::FdCreate1 { .. } => Family::NotBuilt,
         }
     }
 }

@@ -28,8 +28,7 @@ pub use place::Place;
 pub use reply::{Answer, Payload, Reply, WordWrite, WordWrites};
 pub use status::Status;
 pub use stream::Stream;
-pub use thread::Thread;
-pub use waiter::Waiter;
+pub use thread::{Stage, Thread};
 pub use wake::WakeIn;
 pub use who::Who;
 
@@ -50,6 +49,5 @@ mod reply;
 mod status;
 mod stream;
 mod thread;
-mod waiter;
 mod wake;
 mod who;

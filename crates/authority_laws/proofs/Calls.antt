@@ -37,12 +37,13 @@ use Rattle.kernel_model.specs.Families.Numbers.{next_object}
 use Rattle.kernel_model.specs.Families.Opening.{open_mode, open_walked}
 use Rattle.kernel_model.specs.Outcome.{Outcome, parks, replies}
 use Rattle.kernel_model.specs.Reply.{refused, success}
-use Rattle.kernel_model.specs.State.{State, ProcessState, Table, put_all, put_one, set_open, set_table}
+use Rattle.kernel_model.specs.State.{State, ProcessState, Table, put_all, put_one, set_open, set_process, set_table}
 use Rattle.abi_structures.specs.declared.events.Subscription.{Subscription}
-use Rattle.abi_types.specs.declared.reply.WordWrites.TheVariants.{Zero}
 use Rattle.kernel_model.specs.Families.Polls.{events_reply}
 use Rattle.kernel_model.proofs.Polls.{poll_holds}
-use Rattle.kernel_model.specs.Families.LockWords.{unlocked}
+use Rattle.kernel_model.specs.Families.LockCalls.{sleeps_in, tells, word_reply}
+use Rattle.kernel_model.specs.Families.Locks.{signalled_own, signalled_word, unlocked_own}
+use Rattle.kernel_model.proofs.LockCalls.{signal_holds, unlock_holds}
 use Rattle.kernel_model.specs.Families.ProcessCalls.{ended_process, made_if}
 use Rattle.kernel_model.specs.OwnChanges.{without_thread}
 use Rattle.kernel_model.proofs.ClockCalls.{drawn_holds}
@@ -182,12 +183,17 @@ unbuilt_reported : (call : Call)
 unbuilt_reported call is constants S v who table there seen =
     subst (LeavesRow S who.pid call) (sym (is constants v who table)) (refused_reported S who.pid call Nosys nosys_is_error)
 
--- a poll has its events, or its thread waits
+-- a poll has its events, or its thread waits, and may hand on a lock
 poll_reported : (subscriptions : List Subscription) → IsReported (call.Poll subscriptions)
 poll_reported subscriptions constants S v who table there seen =
-    poll_holds (LeavesRow S who.pid (call.Poll subscriptions)) (refused_reported S who.pid (call.Poll subscriptions) Nosys nosys_is_error)
-    (λ event more. kept S who.pid (call.Poll subscriptions) (replies (events_reply (event ∷ more))) (λ after row reply. refl) refl)
-    (kept S who.pid (call.Poll subscriptions) (parks Zero) (λ after row reply. refl) refl) subscriptions constants v who table
+    poll_holds (LeavesRow S who.pid (call.Poll subscriptions)) (record {
+      told = λ event more. kept S who.pid (call.Poll subscriptions) (replies (events_reply (event ∷ more))) (λ after row reply. refl) refl;
+      tells = λ userdata what errno writes.
+          kept S who.pid (call.Poll subscriptions) (tells userdata what errno writes) (λ after row reply. refl) refl;
+      waits = λ writes _. kept S who.pid (call.Poll subscriptions) (parks writes) (λ after row reply. refl) refl;
+      sleeps = λ p condvar lock own.
+          kept S who.pid (call.Poll subscriptions) (sleeps_in p condvar lock (Some own)) (λ after row reply. refl) refl;
+    }) subscriptions constants v who table
 
 -- ---- calls that change their process's table
 
@@ -279,13 +285,35 @@ create_reported attributes constants S v who table there seen =
 exit_reported : (lock word scope : ℕ) → IsReported (call.ThreadExit lock word scope)
 exit_reported lock word scope constants S v who table there seen =
     let row : Row = row_of S who.pid in
-    left_holds (LeavesRow S who.pid (call.ThreadExit lock word scope)) who.pid who.tid (v.process who.pid) lock (unlocked who.tid word)
+    left_holds (LeavesRow S who.pid (call.ThreadExit lock word scope)) who.pid who.tid lock word (v.process who.pid)
     (refused_reported S who.pid (call.ThreadExit lock word scope) Perm perm_is_error)
-    (λ new last. row_emptied S.tables who.pid
+    (λ new own _ _ last. row_emptied S.tables who.pid
     ∙ sym (ap (λ o. cond (has_thread o) row no_row) (get-insert-same S.processes who.pid (ended_process (v.process who.pid)))
     ∙ ap (λ n. cond (not (n == 0)) row no_row) (len-empty nat_cmp Thread)))
-    (λ new own _ more. sym (ap (λ o. cond (has_thread o) row no_row) (get-insert-same S.processes who.pid (without_thread who.tid own))
+    (λ new own _ _ more. sym (ap (λ o. cond (has_thread o) row no_row)
+    (get-insert-same S.processes who.pid (without_thread who.tid (unlocked_own lock word who.tid own)))
     ∙ ap (λ b. cond (not b) row no_row) more))
+
+-- ---- locks and condition variables
+
+unlock_reported : (lock word scope : ℕ) → IsReported (call.LockUnlock lock word scope)
+unlock_reported lock word scope constants S v who table there seen =
+    unlock_holds (LeavesRow S who.pid (call.LockUnlock lock word scope)) who.pid who.tid lock word (v.process who.pid)
+    (refused_reported S who.pid (call.LockUnlock lock word scope) Perm perm_is_error)
+    (λ own new _. kept S who.pid (call.LockUnlock lock word scope)
+    (record { answer = answer.Reply (word_reply lock new); updates = set_process who.pid (unlocked_own lock word who.tid own) ∷ [] })
+    (λ after row reply. refl) refl)
+
+signal_wakes_reported : (condvar word scope n : ℕ) → IsReported (call.CondvarSignal condvar word scope n)
+signal_wakes_reported condvar word scope n constants S v who table there seen =
+    signal_holds (LeavesRow S who.pid (call.CondvarSignal condvar word scope n)) who.pid condvar n (v.process who.pid)
+    (λ _. kept S who.pid (call.CondvarSignal condvar word scope n) (replies (success 0 0)) (λ after row reply. refl) refl)
+    (λ own _. kept S who.pid (call.CondvarSignal condvar word scope n)
+    (record {
+      answer = answer.Reply (word_reply condvar (signalled_word n condvar own.threads));
+      updates = set_process who.pid (signalled_own condvar n own) ∷ [];
+    })
+    (λ after row reply. refl) refl)
 
 -- ---- processes
 
@@ -349,7 +377,7 @@ reported (call.ClockResGet clock) = λ constants S v who table there seen.
     kept S who.pid (call.ClockResGet clock) (replies (success 1000 0)) (λ after row reply. refl) refl
 reported (call.ClockTimeGet clock precision) = λ constants S v who table there seen.
     kept S who.pid (call.ClockTimeGet clock precision) (replies (success (time_of constants clock v.clock) 0)) (λ after row reply. refl) refl
-reported (call.CondvarSignal condvar word scope n) = unbuilt_reported (call.CondvarSignal condvar word scope n) (λ constants v who table. refl)
+reported (call.CondvarSignal condvar word scope n) = signal_wakes_reported condvar word scope n
 reported (call.FdClose fd) = fd_close_reported fd
 reported (call.FdCreate1 kind) = unbuilt_reported (call.FdCreate1 kind) (λ constants v who table. refl)
 reported (call.FdCreate2 kind) = λ constants S v who table there seen.
@@ -387,7 +415,7 @@ reported (call.FileSymlink text fd path) =
     (λ constants v who table. ((making_unless (text_error text) (making (Link text) path)).new_nodes, v.process who.pid, _, refl))
 reported (call.FileUnlink fd path flags) =
     named_reported (call.FileUnlink fd path flags) (λ after row reply. refl) (λ constants v who table. (0, v.process who.pid, _, refl))
-reported (call.LockUnlock lock word scope) = unbuilt_reported (call.LockUnlock lock word scope) (λ constants v who table. refl)
+reported (call.LockUnlock lock word scope) = unlock_reported lock word scope
 reported (call.MemMap place length prot flags fd offset) = mem_map_reported place length prot flags fd offset
 reported (call.Memory number errno) = λ constants S v who table there seen. decided_reported (call.Memory number errno) errno S who.pid (λ after row reply. refl)
 reported (call.Poll subscriptions) = poll_reported subscriptions

@@ -103,7 +103,7 @@ woken_may_wait launch front e rest call given answered begins legal is =
     let w = world launch front in
     let fits : FitsAct w.constants w.state (who_of w.state e) (guest_of w e.pid) e.turns e.act = (legal_next launch front e rest legal).act in
     let woken = subst (FitsAct w.constants w.state (who_of w.state e) (guest_of w e.pid) e.turns) is fits in
-    subst MayWait woken.0.1.1 ((world_is_valid launch front begins (legal_front launch front (e ∷ rest) legal)).nearly.waits e.pid e.tid)
+    (subst MayWait woken.0.1.3 ((world_is_valid launch front begins (legal_front launch front (e ∷ rest) legal)).nearly.waits e.pid e.tid)).0
 
 -- so a call in which none may succeeds at once
 pub at_once : (launch : Launch) (front : List Entry) (e : Entry) (rest : List Entry) (call : Call) (reply : Reply) → MayBegin launch.tree launch.grants

@@ -16,6 +16,7 @@ use Rattle.run_types.specs.declared.history.Entry.{Entry}
 use Rattle.kernel_model.specs.OpenLaws.{OpensStay}
 use Rattle.kernel_model.specs.State.{State}
 use Rattle.kernel_model.specs.Valid.{IsNamed, IsValid}
+use Rattle.kernel_model.specs.Families.Locks.{with_word}
 use Rattle.kernel_model.specs.Waits.{resumed}
 use Rattle.kernel_model.specs.Wakes.{IsWake}
 use Rattle.kernel_model.proofs.Waking.{resumed_valid}
@@ -34,7 +35,7 @@ named_open d (Some kind) named = (kind, refl)
 wake_stays : (constants : Constants) (S : State) (who : Who) (call : Call) (given : WakeIn) (answered : Answer) (T : State) → IsValid S
     → IsWake constants S who call given answered T → OpensStay S T
 wake_stays constants S who call (wake.Plain word) answered T valid is =
-    targets.opens_stay constants (resumed S who) who call answered T (resumed_valid S who valid) is.0
+    targets.opens_stay constants (resumed S who) who (with_word word call) answered T (resumed_valid S who valid) is.0
 wake_stays constants S who call wake.Fault answered T valid is = subst (OpensStay S) (sym is.1) (targets.opens_stay_here S)
 
 acted_stay : (w : World) (who : Who) (guest : Guest) (ts : List ℕ) (a : Act) → IsValid w.state → FitsAct w.constants w.state who guest ts a

@@ -6,6 +6,7 @@ use Rattle.abi_base.specs.declared.errno.Errno.TheVariants.{Fault, Success}
 use Rattle.abi_base.specs.declared.signal.Signal.TheVariants.{Xcpu}
 use Rattle.tree_model.specs.Grants.{MayBegin}
 use Rattle.abi_types.specs.declared.call.Call.{Call}
+use Rattle.abi_types.specs.declared.call.Call.TheVariants.{FdWrite, SockSend}
 use Rattle.abi_types.specs.declared.constants.Constants.{Constants}
 use Rattle.abi_types.specs.declared.descriptor.Descriptor.{Descriptor}
 use Rattle.abi_types.specs.declared.open_kind.OpenKind.TheVariants.{End}
@@ -22,6 +23,7 @@ use Rattle.run_types.specs.declared.history.Entry.{Entry}
 use Rattle.run_types.specs.declared.launch.Launch.{Launch}
 use Rattle.kernel_model.specs.ChannelLaws as kernel
 use Rattle.kernel_model.specs.Channels.{Channel}
+use Rattle.kernel_model.specs.Families.Locks.{with_word}
 use Rattle.kernel_model.specs.Proper.{sends_had}
 use Rattle.kernel_model.specs.State.{State, Table}
 use Rattle.kernel_model.specs.Step.{IsStep}
@@ -35,6 +37,7 @@ use Rattle.kernel_model.proofs.Waking.{resumed_valid}
 use Rattle.run_model.specs.Legal.{FitsAct, Fits, Legal}
 use Rattle.run_model.specs.World.{World, Guest, guest_of, called_state, woken_state, turned, acted, who_of, apply, world}
 use Rattle.run_model.proofs.Histories.{apply_is, legal_front, legal_next, world_more}
+use Rattle.run_model.proofs.Words.{word_kept}
 use Rattle.run_model.proofs.Worlds.{world_is_valid}
 use Rattle.authority_laws.specs.Deliveries.{BeginsCount, CountsMore, IsPut, PutsInto}
 use Rattle.authority_laws.specs.Laws.{SendsAreNumbered}
@@ -144,21 +147,66 @@ call_counts constants S who call given T c was now valid is before after =
       )
     ]
 
+-- what a call puts with another word of its lock, it puts
+puts_by_word : (S : State) (who : Who) (word : ℕ) (call : Call) (given : Answer) (c : ℕ) → kernel.PutsInto S who (with_word word call) given c
+    → kernel.PutsInto S who call given c
+puts_by_word S who word call given c puts = record {
+  fd = puts.fd;
+  bytes = puts.bytes;
+  is = elim puts.is [
+    | inl writes ↦ inl (word_kept word call (FdWrite puts.fd puts.bytes) refl writes)
+    | inr sends ↦ inr (sends.0, sends.1, word_kept word call (SockSend puts.fd puts.bytes sends.0 sends.1) refl sends.2)
+  ];
+  some = puts.some;
+  reply = puts.reply;
+  replied = puts.replied;
+  success = puts.success;
+  table = puts.table;
+  own = puts.own;
+  d = puts.d;
+  socket = puts.socket;
+  reads = puts.reads;
+  mode = puts.mode;
+  opened = puts.opened;
+}
+
+puts_with_word : (S : State) (who : Who) (word : ℕ) (call : Call) (given : Answer) (c : ℕ) → kernel.PutsInto S who call given c
+    → kernel.PutsInto S who (with_word word call) given c
+puts_with_word S who word call given c puts = record {
+  fd = puts.fd;
+  bytes = puts.bytes;
+  is = elim puts.is [
+    | inl writes ↦ inl (ap (with_word word) writes)
+    | inr sends ↦ inr (sends.0, sends.1, ap (with_word word) sends.2)
+  ];
+  some = puts.some;
+  reply = puts.reply;
+  replied = puts.replied;
+  success = puts.success;
+  table = puts.table;
+  own = puts.own;
+  d = puts.d;
+  socket = puts.socket;
+  reads = puts.reads;
+  mode = puts.mode;
+  opened = puts.opened;
+}
+
 wake_counts : (constants : Constants) (S : State) (who : Who) (call : Call) (given : WakeIn) (answered : Answer) (T : State) (c : ℕ) (was now : Channel)
     → IsValid S → IsWake constants S who call given answered T → get S.chans c ≡ Some was → get T.chans c ≡ Some now
     → ActCounts S T who (act.Wake call given answered) c was now
 wake_counts constants S who call (wake.Plain word) answered T c was now valid is before after =
     let a : Act = act.Wake call (wake.Plain word) answered in
-    elim (counts.sends_are_counted constants (resumed S who) who call answered T c was now (resumed_valid S who valid) is.0 before after) [
+    elim (counts.sends_are_counted constants (resumed S who) who (with_word word call) answered T c was now (resumed_valid S who valid) is.0 before after) [
       | inl puts ↦ inl (
         again (act_of (resumed S who) who call answered a c (λ reply e. inr (wake.Plain word, ap (act.Wake call (wake.Plain word)) e))
-            puts.0),
+            (puts_by_word (resumed S who) who word call answered c puts.0)),
         puts.1,
       )
       | inr none ↦ inr (
         λ puts.
-            none.0 (call_of (resumed S who) who call answered a c (as_resumed puts) (shown_call call answered a puts.call puts.reply refl puts.is)
-            (shown_answer answered a puts.call puts.reply refl puts.is)),
+            none.0 (puts_with_word (resumed S who) who word call answered c (call_of (resumed S who) who call answered a c (as_resumed puts)
+            (shown_call call answered a puts.call puts.reply refl puts.is) (shown_answer answered a puts.call puts.reply refl puts.is))),
         none.1,
       )
     ] where
@@ -208,7 +256,7 @@ wake_counts constants S who call wake.Fault answered T c was now valid is before
 wake_new : (constants : Constants) (S : State) (who : Who) (call : Call) (given : WakeIn) (answered : Answer) (T : State) (c : ℕ) (now : Channel) → IsValid S
     → IsWake constants S who call given answered T → get S.chans c ≡ None → get T.chans c ≡ Some now → sends_had now ≡ 0
 wake_new constants S who call (wake.Plain word) answered T c now valid is before after =
-    counts.new_channels_have_none constants (resumed S who) who call answered T c now (resumed_valid S who valid) is.0 before after
+    counts.new_channels_have_none constants (resumed S who) who (with_word word call) answered T c now (resumed_valid S who valid) is.0 before after
 wake_new constants S who call wake.Fault answered T c now valid is before after =
     absurd (none_is_no now (sym before ∙ subst (λ (V : State). get V.chans c ≡ Some now) is.1 after))
 

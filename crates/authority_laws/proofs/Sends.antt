@@ -31,6 +31,7 @@ use Rattle.kernel_model.specs.Proper.{GoesOn, adds, draws, empties}
 use Rattle.kernel_model.specs.State.{State, Table}
 use Rattle.kernel_model.specs.Step.{IsStep}
 use Rattle.kernel_model.specs.Valid.{IsValid}
+use Rattle.kernel_model.specs.Families.Locks.{with_word}
 use Rattle.kernel_model.specs.Waits.{resumed}
 use Rattle.kernel_model.specs.Wakes.{IsWake}
 use Rattle.kernel_model.proofs.ChannelChanges.{by_less}
@@ -40,6 +41,7 @@ use Rattle.kernel_model.proofs.Waking.{resumed_valid}
 use Rattle.run_model.specs.Legal.{FitsAct, Fits, Legal}
 use Rattle.run_model.specs.World.{World, Guest, guest_of, called_state, woken_state, turned, acted, who_of, apply, world}
 use Rattle.run_model.proofs.Histories.{apply_is, legal_front, legal_next, world_more}
+use Rattle.run_model.proofs.Words.{word_kept}
 use Rattle.run_model.proofs.Worlds.{world_is_valid}
 use Rattle.authority_laws.specs.Deliveries.{IsSend, SendsTo}
 use Rattle.authority_laws.specs.Ledger.{Row, added, picked}
@@ -145,16 +147,17 @@ by_call S who call given c carried (inr sent) = inr (record {
   listed = sent.listed;
 })
 
-by_wake : (S : State) (who : Who) (call : Call) (given : WakeIn) (answered : Answer) (c : ℕ) (carried : List Descriptor)
-    → (carried ≡ []) ⊎ SendsOn (resumed S who) who call answered c carried → (carried ≡ []) ⊎ SentNow S who (act.Wake call given answered) c carried
-by_wake S who call given answered c carried (inl bare) = inl bare
-by_wake S who call given answered c carried (inr sent) = inr (record {
+by_wake : (S : State) (who : Who) (call : Call) (word : ℕ) (answered : Answer) (c : ℕ) (carried : List Descriptor)
+    → (carried ≡ []) ⊎ SendsOn (resumed S who) who (with_word word call) answered c carried
+    → (carried ≡ []) ⊎ SentNow S who (act.Wake call (wake.Plain word) answered) c carried
+by_wake S who call word answered c carried (inl bare) = inl bare
+by_wake S who call word answered c carried (inr sent) = inr (record {
   fd = sent.fd;
   bytes = sent.bytes;
   fds = sent.fds;
   flags = sent.flags;
   reply = sent.reply;
-  is = inr (given, λ i. act.Wake (sent.is i) given (sent.replied i));
+  is = inr (wake.Plain word, λ i. act.Wake (word_kept word call (SockSend sent.fd sent.bytes sent.fds sent.flags) refl sent.is i) (wake.Plain word) (sent.replied i));
   success = sent.success;
   some = sent.some;
   table = sent.table;
@@ -177,10 +180,10 @@ wake_goes : (constants : Constants) (S : State) (who : Who) (call : Call) (given
     → IsWake constants S who call given answered T → GoesBy S T who (act.Wake call given answered) c
 wake_goes constants S who call (wake.Plain word) answered T c valid is =
     λ now there.
-    goes_weaker (λ carried. (carried ≡ []) ⊎ SendsOn (resumed S who) who call answered c carried)
+    goes_weaker (λ carried. (carried ≡ []) ⊎ SendsOn (resumed S who) who (with_word word call) answered c carried)
     (λ carried. (carried ≡ []) ⊎ SentNow S who (act.Wake call (wake.Plain word) answered) c carried) (get S.chans c) now
-    (by_wake S who call (wake.Plain word) answered c)
-    (channels_go_on constants (resumed S who) who call answered T c now (resumed_valid S who valid) is.0 there)
+    (by_wake S who call word answered c)
+    (channels_go_on constants (resumed S who) who (with_word word call) answered T c now (resumed_valid S who valid) is.0 there)
 wake_goes constants S who call wake.Fault answered T c valid is =
     λ now there.
     stays_so (λ carried. (carried ≡ []) ⊎ SentNow S who (act.Wake call wake.Fault answered) c carried) (get S.chans c) now

@@ -1,5 +1,5 @@
 -- An entry leaves in the kernel's tables what it leaves in the ledger.
-use Rattle.std.proofs.Common.{◌≡◌, ◌≢◌, inl, inr, ℕ, ◌-◌, ◌==◌, zero, suc, Bool, true, false, not, cond, List, Option, Some, None, is_some, refl, sym, ap, subst, ◌∙◌, arith}
+use Rattle.std.proofs.Common.{◌≡◌, ◌≢◌, inl, inr, ℕ, ◌+◌, ◌-◌, ◌==◌, zero, suc, Bool, true, false, not, cond, List, Option, Some, None, is_some, refl, sym, ap, subst, ◌∙◌, arith}
 use Rattle.std.specs.Prelude.{option_map}
 use Rattle.std.proofs.lemmas.Bool.{eq-eqb}
 use Rattle.std.proofs.lemmas.Bool.Decides.{eqb_tells}
@@ -12,9 +12,10 @@ use Rattle.abi_base.specs.declared.grant.Grant.{Grant}
 use Rattle.abi_structures.specs.declared.structures.FdStat.{FdStat}
 use Rattle.abi_base.specs.declared.signal.Signal.{Signal}
 use Rattle.abi_types.specs.declared.reply.Answer.{Answer}
+use Rattle.abi_structures.specs.declared.events.Subscription.{Subscription}
 use Rattle.abi_types.specs.declared.call.Call.{Call}
 use Rattle.abi_types.specs.declared.constants.Constants.{Constants}
-use Rattle.abi_types.specs.declared.call.Call.TheVariants.{FdCreate2, FileOpen, ProcFork}
+use Rattle.abi_types.specs.declared.call.Call.TheVariants.{FdCreate2, FileOpen, Poll, ProcFork}
 use Rattle.abi_types.specs.declared.descriptor.Descriptor.{Descriptor}
 use Rattle.abi_types.specs.declared.open_kind.OpenKind.{OpenKind}
 use Rattle.abi_types.specs.declared.reply.Answer.TheVariants as answer
@@ -36,6 +37,7 @@ use Rattle.kernel_model.specs.Step.{tick, outcome, step_answer, step_state, unre
 use Rattle.kernel_model.specs.Valid.{IsValid}
 use Rattle.kernel_model.specs.View.{whole}
 use Rattle.kernel_model.specs.Deadlines.{idle_state}
+use Rattle.kernel_model.specs.Families.Locks.{with_word}
 use Rattle.kernel_model.specs.Waits.{resumed, waiting, waits_if}
 use Rattle.kernel_model.specs.Wakes.{IsWake}
 use Rattle.kernel_model.proofs.Ends.{process_spared, table_after, table_spared}
@@ -45,6 +47,7 @@ use Rattle.kernel_model.proofs.Steps.{step_moves_only, end_ends_only, unless_kil
 use Rattle.kernel_model.proofs.Tests.{not_true, none_is_no, same_some}
 use Rattle.kernel_model.proofs.Touches.{live_spared}
 use Rattle.kernel_model.proofs.Valids.{get_released, held_or_carried, held_stays, left_counts, named_is_held, released_stays}
+use Rattle.run_model.proofs.Words.{by_word}
 use Rattle.authority_laws.specs.Ledger.{Row, no_row, has_thread, with_held, Ledger, After, Made, after_of, object_at, process_of, sends_of, waits_for, is_live, is_new, last_made, recently_made, with_row, with_child, of_live, launch_row, launch_ledger, new_descriptor, new_held, new_held_of, granted_row, by_success, answered_row, answered_child}
 use Rattle.authority_laws.specs.Laws.{Holds}
 use Rattle.authority_laws.proofs.Calls.{reported, refusal_reported}
@@ -219,7 +222,7 @@ pub step_row : (constants : Constants) (S : State) (who : Who) (call : Call) (gi
 step_row constants S who call given T (inl done) unkilled =
     let U = unreleased constants S who call in
     let reported : row_of U who.pid ≡ answered_row (after_of S U who.pid) (row_of S who.pid) call (step_answer constants S who call) =
-    waits_reported (step_answer constants S who call) who (waiting constants call who.since) S (put_all (outcome constants S who call).updates (tick S))
+    waits_reported (step_answer constants S who call) who (waiting constants call who (S.clock + 1000)) S (put_all (outcome constants S who call).updates (tick S))
     (row_of S who.pid) call (outcome_reported constants S who call) in
     let spared : IsSpared U who.pid = unkilled done.1 in
     subst (λ (V : State). row_of V who.pid ≡ answered_row (after_of S V who.pid) (row_of S who.pid) call given) (sym done.1)
@@ -336,6 +339,15 @@ step_rows constants S who call given T l step start valid before =
     ]
     ∙ ap (λ child. (with_child child (l.held who.pid) l).held q) (sym (child_is constants S who call given T start step)))
 
+-- each poll leaves the same
+polls_row : (S T : State) (l : Ledger) (p : ℕ) (given : Answer) (one other : List Subscription)
+    → HasRows T (of_live (after_of S T p).live
+    (with_row (with_child (answered_child (after_of S T p) (Poll one) given) (l.held p) l) p (answered_row (after_of S T p) (l.held p) (Poll one) given)))
+    → HasRows T (of_live (after_of S T p).live
+    (with_row (with_child (answered_child (after_of S T p) (Poll other) given) (l.held p) l) p (answered_row (after_of S T p) (l.held p) (Poll other) given)))
+polls_row S T l p (answer.Parked writes) one other rows = rows
+polls_row S T l p (answer.Reply reply) one other rows = rows
+
 -- a wake leaves what its call does from the state in which the thread runs
 pub wake_rows : (constants : Constants) (S : State) (who : Who) (call : Call) (given : WakeIn) (answered : Answer) (T : State) (l : Ledger)
     → IsWake constants S who call given answered T → IsValid S → IsValid T → HasRows S l
@@ -343,7 +355,10 @@ pub wake_rows : (constants : Constants) (S : State) (who : Who) (call : Call) (g
     (with_row (with_child (answered_child (after_of S T who.pid) call answered) (l.held who.pid) l) who.pid
     (answered_row (after_of S T who.pid) (l.held who.pid) call answered)))
 wake_rows constants S who call (wake.Plain word) answered T l is start valid before =
-    step_rows constants (resumed S who) who call answered T l is.0 (resumed_valid S who start) valid before
+    by_word (λ c. HasRows T (of_live (after_of S T who.pid).live
+    (with_row (with_child (answered_child (after_of S T who.pid) c answered) (l.held who.pid) l) who.pid
+    (answered_row (after_of S T who.pid) (l.held who.pid) c answered)))) (polls_row S T l who.pid answered) word call
+    (step_rows constants (resumed S who) who (with_word word call) answered T l is.0 (resumed_valid S who start) valid before)
 wake_rows constants S who call wake.Fault answered T l is start valid before =
     let row : (q : ℕ) → row_of T q ≡ l.held q = λ q. ap (λ (U : State). row_of U q) is.1 ∙ before q in
     subst (λ a. HasRows T (of_live (after_of S T who.pid).live

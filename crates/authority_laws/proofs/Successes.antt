@@ -16,8 +16,9 @@ use Rattle.abi_base.specs.Rights.{Has, minus_of}
 use Rattle.abi_base.specs.declared.errno.Errno.{Errno}
 use Rattle.abi_base.specs.declared.errno.Errno.TheVariants.{Badf, Fault, Nomem, Success}
 use Rattle.abi_structures.specs.declared.structures.FdStat.{FdStat}
+use Rattle.abi_structures.specs.declared.events.Subscription.{Subscription}
 use Rattle.abi_types.specs.declared.call.Call.{Call}
-use Rattle.abi_types.specs.declared.call.Call.TheVariants.{FileOpen}
+use Rattle.abi_types.specs.declared.call.Call.TheVariants.{FileOpen, Poll}
 use Rattle.abi_types.specs.declared.call.Lookup.{Lookup}
 use Rattle.abi_types.specs.declared.constants.Constants.{Constants}
 use Rattle.abi_types.specs.declared.descriptor.Descriptor.{Descriptor}
@@ -43,6 +44,7 @@ use Rattle.kernel_model.specs.Step.{tick, outcome_on, step_answer, IsStep}
 use Rattle.kernel_model.specs.Fits.{fits, fits_inheriting}
 use Rattle.kernel_model.specs.Valid.{IsNamed, IsValid}
 use Rattle.kernel_model.specs.View.{whole}
+use Rattle.kernel_model.specs.Families.Locks.{with_word}
 use Rattle.kernel_model.specs.Waits.{resumed}
 use Rattle.kernel_model.specs.Wakes.{IsWake}
 use Rattle.kernel_model.proofs.Waking.{resumed_valid}
@@ -53,6 +55,7 @@ use Rattle.kernel_model.proofs.Refusals.{refused_answer, refusal_is_other, same_
 use Rattle.kernel_model.proofs.Tests.{not_true}
 use Rattle.run_model.specs.Legal.{FitsAct}
 use Rattle.run_model.specs.World.{Guest, called_state, woken_state, who_of}
+use Rattle.run_model.proofs.Words.{by_word}
 use Rattle.authority_laws.specs.Ledger.{After, Ledger}
 use Rattle.authority_laws.specs.Origins.{InheritsFrom, was_opened}
 use Rattle.authority_laws.proofs.Origins.{ActIsWithin, AnswerIsWithin, OpensWithin}
@@ -212,10 +215,17 @@ refused_within : (after : After) (l : Ledger) (e : Entry) (call : Call) (answere
     → AnswerIsWithin after l e call answered
 refused_within after l e call answered is = subst (AnswerIsWithin after l e call) (sym is) (λ success. absurd (fault_is_error success))
 
+-- no poll opens anything
+polls_within : (after : After) (l : Ledger) (e : Entry) (given : Answer) (one other : List Subscription) → AnswerIsWithin after l e (Poll one) given
+    → AnswerIsWithin after l e (Poll other) given
+polls_within after l e (answer.Parked writes) one other within = tt
+polls_within after l e (answer.Reply reply) one other within = λ success. tt
+
 wake_is_within : (constants : Constants) (S : State) (who : Who) (after : After) (l : Ledger) (e : Entry) (call : Call) (given : WakeIn) (answered : Answer)
     (T : State) → who.pid ≡ e.pid → IsWake constants S who call given answered T → IsValid S → HasRows S l → AnswerIsWithin after l e call answered
 wake_is_within constants S who after l e call (wake.Plain word) answered T own is valid rows =
-    answer_is_within constants (resumed S who) who after l e call answered T own is.0 (resumed_valid S who valid) rows
+    by_word (λ c. AnswerIsWithin after l e c answered) (polls_within after l e answered) word call
+    (answer_is_within constants (resumed S who) who after l e (with_word word call) answered T own is.0 (resumed_valid S who valid) rows)
 wake_is_within constants S who after l e call wake.Fault answered T own is valid rows = refused_within after l e call answered is.0
 
 pub act_is_within : (constants : Constants) (S : State) (guest : Guest) (ts : List ℕ) (after : After) (l : Ledger) (e : Entry) (a : Act)

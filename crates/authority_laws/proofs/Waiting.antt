@@ -13,7 +13,8 @@ use Rattle.tree_model.specs.Grants.{MayBegin}
 use Rattle.abi_types.specs.declared.status.Status.TheVariants.{Killed}
 use Rattle.abi_base.specs.declared.errno.Errno.TheVariants.{Success}
 use Rattle.abi_types.specs.declared.call.Call.{Call}
-use Rattle.abi_types.specs.declared.call.Call.TheVariants.{MemMap, SockSend}
+use Rattle.abi_types.specs.declared.call.Call.TheVariants.{MemMap, Poll, SockSend}
+use Rattle.abi_structures.specs.declared.events.Subscription.{Subscription}
 use Rattle.abi_types.specs.declared.constants.Constants.{Constants}
 use Rattle.abi_types.specs.declared.descriptor.Descriptor.{Descriptor}
 use Rattle.abi_types.specs.declared.open_kind.OpenKind.{OpenKind}
@@ -32,6 +33,8 @@ use Rattle.kernel_model.specs.Channels.{Channel, Send, carried_of}
 use Rattle.abi_types.specs.Families.{is_anonymous}
 use Rattle.kernel_model.specs.Calls.{meaning_of}
 use Rattle.kernel_model.specs.Families.FileMeaning.{on_open}
+use Rattle.kernel_model.specs.Families.Locks.{with_word}
+use Rattle.kernel_model.specs.Families.Polls.{begins_with_lock, poll_by}
 use Rattle.kernel_model.specs.Families.MemoryCalls.{map_row, map_zeros, mapping, mem_map}
 use Rattle.kernel_model.specs.Meaning.{Meaning}
 use Rattle.kernel_model.specs.Proper.{IsIn, Waits}
@@ -49,6 +52,7 @@ use Rattle.kernel_model.proofs.Waking.{resumed_valid}
 use Rattle.run_model.specs.Legal.{FitsAct, Fits, Legal}
 use Rattle.run_model.specs.World.{World, Guest, guest_of, called_state, woken_state, turned, acted, who_of, apply, world}
 use Rattle.run_model.proofs.Histories.{apply_is, first_state, legal_front, legal_next, world_more, world_none}
+use Rattle.run_model.proofs.Words.{by_word}
 use Rattle.run_model.proofs.Worlds.{world_is_valid}
 use Rattle.authority_laws.specs.Ledger.{Row, came_for, carried_first, first_carried, put_each, waits_for, with_held}
 use Rattle.authority_laws.specs.Recorded.{Succeeds, after_at}
@@ -71,10 +75,23 @@ record SentBy (S : State) (who : Who) (a : Act) (d : Descriptor) : Type 0 where
   listed : IsIn n (meaning_of call).sends
   here : get table n ≡ Some d
 
+no_number : (n : ℕ) (before after : List ℕ) → [] ≡ before ++ n ∷ after → ⊥
+no_number n [] after e = cc
+no_number n (x ∷ before) after e = cc
+
+-- no poll sends descriptors
+by_sends : (lock : Bool) (subscriptions : List Subscription) → (poll_by lock subscriptions).sends ≡ []
+by_sends true [] = refl
+by_sends true (first ∷ rest) = refl
+by_sends false subscriptions = refl
+
+poll_sends_none : (subscriptions : List Subscription) (n : ℕ) → IsIn n (meaning_of (Poll subscriptions)).sends → ⊥
+poll_sends_none subscriptions n is = no_number n is.0 is.1 (sym (by_sends (begins_with_lock subscriptions) subscriptions) ∙ is.2)
+
 wake_waits : (constants : Constants) (S : State) (who : Who) (call : Call) (given : WakeIn) (answered : Answer) (T : State) (c : ℕ) (d : Descriptor)
     → IsValid S → IsWake constants S who call given answered T → Waits T c d → Waits S c d ⊎ SentBy S who (act.Wake call given answered) d
 wake_waits constants S who call (wake.Plain word) answered T c d valid is waits =
-    elim (waiting_was_held constants (resumed S who) who call answered T c d (resumed_valid S who valid) is.0 waits) [
+    elim (waiting_was_held constants (resumed S who) who (with_word word call) answered T c d (resumed_valid S who valid) is.0 waits) [
       | inl was ↦ inl was
       | inr sent ↦ inr (record {
         call = call;
@@ -84,7 +101,8 @@ wake_waits constants S who call (wake.Plain word) answered T c d valid is waits 
         table = sent.table;
         own = sent.own;
         n = sent.n;
-        listed = sent.listed;
+        listed =
+            by_word (λ x. IsIn sent.n (meaning_of x).sends) (λ one other was. absurd (poll_sends_none one sent.n was)) word call sent.listed;
         here = sent.here;
       })
     ]
@@ -143,10 +161,6 @@ record IsSocketSend (call : Call) (n : ℕ) : Type 0 where
   is : call ≡ SockSend fd bytes fds flags
   listed : IsIn n fds
 
-no_number : (n : ℕ) (before after : List ℕ) → [] ≡ before ++ n ∷ after → ⊥
-no_number n [] after e = cc
-no_number n (x ∷ before) after e = cc
-
 sends_by : (b : Bool) (x y : Meaning) → x.sends ≡ [] → y.sends ≡ [] → (cond b x y).sends ≡ []
 sends_by true x y one two = one
 sends_by false x y one two = two
@@ -158,6 +172,7 @@ is_socket_send (MemMap place size prot flags fd offset) n is =
     let none : (mem_map place size prot flags fd offset).sends ≡ [] =
     sends_by (is_anonymous flags) (map_zeros place) (on_open (map_row fd prot) (mapping place size offset)) refl refl in
     absurd (no_number n is.0 is.1 (sym none ∙ is.2))
+is_socket_send (Poll subscriptions) n is = absurd (poll_sends_none subscriptions n is)
 is_socket_send call n is = absurd (no_number n is.0 is.1 is.2)
 
 -- ---- where it was held

@@ -1,18 +1,14 @@
--- What is read of a call that registers and memory encode, of a program for which all calls are built.
+-- What is read of a call that registers and memory encode.
 --     encoded_read      it is what is read under the call's number
---     built_encoded      a call that is built is encoded so
 use Rattle.std.proofs.Common.{◌≡◌, ℕ, Bool, true, false, cond, Option, Some, None, Result, Ok, Err, refl, sym, ap, subst, ◌∙◌}
 use Rattle.abi_base.specs.declared.errno.Errno.{Errno}
-use Rattle.abi_base.specs.declared.errno.Errno.TheVariants.{Nosys}
 use Rattle.abi_base.specs.Registers.{Registers}
 use Rattle.abi_types.specs.declared.call.Call.{Call}
-use Rattle.abi_types.specs.declared.call.Call.TheVariants.{Refused}
 use Rattle.abi_types.specs.declared.call_number.CallNumber.{CallNumber}
 use Rattle.abi_types.specs.declared.call_number.CallNumber.TheVariants as number
 use Rattle.codec_arguments.specs.Reading.{◌>>=◌}
 use Rattle.guest_memory.specs.Page.{Pages}
-use Rattle.call_codec.specs.Arguments.{args_of, asked, built_reading, encoded_call, is_built, or_refused, or_unknown, read_of}
-use Rattle.call_codec.specs.GivenLaws.{BuiltIsEncoded, IsRefused}
+use Rattle.call_codec.specs.Arguments.{asked, encoded_call, or_refused, or_unknown, read_of}
 use Rattle.call_codec.proofs.Calls.{read_under}
 
 -- each value that the reading gives has the property
@@ -60,23 +56,3 @@ asked_case r None it read call only e under =
 pub encoded_read : (m : Pages) (r : Registers) (left : ℕ) (call : Call) (it : CallNumber) → call ≡ encoded_call m r left → read_under call ≡ Some it
     → read_of m r left it ≡ Ok call
 encoded_read m r left call it e under = asked_case r (asked r) it (read_of m r left) call (reading_only m r left) e under
-
--- ---- calls that are built
-
-not_refused_so : (call : Call) (it : CallNumber) (errno : Errno) → call ≡ Refused it errno → ¬ IsRefused call → ⊥
-not_refused_so call it errno e goes = goes (subst IsRefused (sym e) tt)
-
-built_case : (built : Bool) (it : CallNumber) (reading : Result Call Errno) (call : Call)
-    → call ≡ or_refused it (cond built reading (Err Nosys)) → ¬ IsRefused call → call ≡ or_refused it reading
-built_case true it reading call e goes = e
-built_case false it reading call e goes = absurd (not_refused_so call it Nosys e goes)
-
-built_asked : (m : Pages) (r : Registers) (left : ℕ) (asks : Option CallNumber) (call : Call)
-    → call ≡ or_unknown r (λ known. or_refused known (built_reading m r left known)) asks → ¬ IsRefused call
-    → call ≡ or_unknown r (λ known. or_refused known (read_of m r left known)) asks
-built_asked m r left (Some it) call e goes = built_case (is_built it) it (read_of m r left it) call e goes
-built_asked m r left None call e goes = e
-
-pub built_encoded : BuiltIsEncoded
-unfolding args_of
-built_encoded m r left call e goes = built_asked m r left (asked r) call e goes

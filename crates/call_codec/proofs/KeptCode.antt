@@ -11,7 +11,7 @@ use Rattle.abi_base.specs.Registers.{Registers}
 use Rattle.abi_structures.specs.declared.structures.Iovec.{Iovec}
 use Rattle.abi_structures.specs.declared.structures.RecvIn.{RecvIn}
 use Rattle.abi_types.specs.declared.call.Call.{Call}
-use Rattle.abi_types.specs.declared.call.Call.TheVariants.{FdPread, FdRead, FdStatGet, FileReaddir, FileReadlink, FileStatFget, FileStatGet, FdWrite, MemMap, Memory, Poll, RandomGet, SockRecv, SockSend, ThreadExit}
+use Rattle.abi_types.specs.declared.call.Call.TheVariants.{CondvarSignal, FdPread, FdRead, FdStatGet, FileReaddir, FileReadlink, FileStatFget, FileStatGet, FdWrite, LockUnlock, MemMap, Memory, Poll, RandomGet, SockRecv, SockSend, ThreadExit}
 use Rattle.abi_types.specs.declared.call_number.CallNumber.{CallNumber}
 use Rattle.abi_types.specs.declared.call_number.CallNumber.TheVariants.{MemProtect, MemUnmap}
 use Rattle.abi_types.specs.declared.place.Place.TheVariants as place
@@ -179,6 +179,8 @@ code_after m r left (RandomGet size) writes given encoded none = as_code m _ (ke
 code_after m r left (SockRecv fd size fds flags) writes given encoded none = as_code m _ (keeps_received m r given)
 code_after m r left (SockSend fd bytes fds flags) writes given encoded none = as_code m _ (keeps_sent m r given)
 code_after m r left (ThreadExit lock word scope) writes given encoded none = words_keep_code m writes
+code_after m r left (LockUnlock lock word scope) writes given encoded none = words_keep_code m writes
+code_after m r left (CondvarSignal condvar word scope n) writes given encoded none = words_keep_code m writes
 code_after m r left _ writes given encoded none = same_code m
 
 -- the answer is a reply that the call succeeded

@@ -1,8 +1,7 @@
 -- The call that a thread's registers and memory encode as it stands at an ECALL: the call's number is in a7, and its
 -- arguments are in a0 and the registers after it (x17, and x10 on: RISC-V ELF psABI, integer register convention).
-use Rattle.std.specs.Prelude.{◌≡◌, ℕ, Bool, true, false, IsTrue, Option, Some, None, MatchOption, Result, Ok, Err, slice_get, slice_index, if◌then◌else◌}
+use Rattle.std.specs.Prelude.{◌≡◌, ℕ, Bool, true, false, IsTrue, Option, Some, None, MatchOption, Result, Ok, Err, slice_get, slice_index}
 use Rattle.abi_base.specs.declared.errno.Errno.{Errno}
-use Rattle.abi_base.specs.declared.errno.Errno.TheVariants.{Nosys}
 use Rattle.abi_base.specs.Registers.{Registers}
 use Rattle.abi_types.specs.CallNumbers.{all_calls}
 use Rattle.abi_types.specs.declared.call.Call.{Call}
@@ -91,12 +90,6 @@ is_copied number.ProcExec = true
 is_copied number.SockSend = true
 is_copied _ = false
 
--- a call that is built: all but these
-abbrev pub is_built : CallNumber → Bool
-is_built number.CondvarSignal = false
-is_built number.LockUnlock = false
-is_built _ = true
-
 -- the call that a7 asks for, if its number is one's
 abbrev pub asked : Registers → Option CallNumber
 asked r = slice_get all_calls (slice_index r.x 17)
@@ -119,13 +112,9 @@ or_unknown r encoded None = Unknown (slice_index r.x 17)
 abbrev pub encoded_call : Pages → Registers → ℕ → Call
 encoded_call m r left = or_unknown r (λ number. or_refused number (read_of m r left number)) (asked r)
 
--- the same of a program that runs: NOSYS for a call that isn't built
-abbrev pub built_reading : Pages → Registers → ℕ → CallNumber → Result Call Errno
-built_reading m r left number = if is_built number then read_of m r left number else Err Nosys
-
--- the call that the registers and the memory of a program that runs encode, whose process has so many turns left
+-- the same, as it is cited
 unfoldable pub args_of : Pages → Registers → ℕ → Call
-args_of m r left = or_unknown r (λ number. or_refused number (built_reading m r left number)) (asked r)
+args_of m r left = encoded_call m r left
 
 -- they encode the call, however many turns are left
 abbrev pub Encodes : Pages → Registers → Call → Type 0

@@ -6,7 +6,7 @@ use Rattle.abi_structures.specs.declared.events.Subscription.{Subscription}
 use Rattle.abi_structures.specs.declared.events.What.{What}
 use Rattle.abi_structures.specs.declared.events.What.TheVariants as what
 use Rattle.abi_types.specs.declared.call.Call.{Call}
-use Rattle.abi_types.specs.declared.call.Call.TheVariants.{FdRead, Poll, Refused, SockRecv, SockSend}
+use Rattle.abi_types.specs.declared.call.Call.TheVariants.{FdRead, Poll, SockRecv, SockSend}
 use Rattle.abi_types.specs.declared.wake.WakeIn.TheVariants.{Plain}
 use Rattle.guest_memory.specs.Page.{Pages}
 use Rattle.guest_memory.specs.Written.{write_of}
@@ -68,11 +68,3 @@ WokenWordIsWritten =
 -- registers that encoded a call with some memory name few ranges
 abbrev pub EncodedHasFewRanges : Type 0
 EncodedHasFewRanges = (m : Pages) (r : Registers) (left : ℕ) (call : Call) → call ≡ args_of m r left → HasFewRanges r call
-
-abbrev pub IsRefused : Call → Type 0
-IsRefused (Refused number errno) = Unit {0}
-IsRefused other = ⊥
-
--- a call that isn't refused is encoded as if all calls were built
-abbrev pub BuiltIsEncoded : Type 0
-BuiltIsEncoded = (m : Pages) (r : Registers) (left : ℕ) (call : Call) → call ≡ args_of m r left → ¬ IsRefused call → call ≡ encoded_call m r left

@@ -14,7 +14,7 @@ use Rattle.abi_structures.specs.declared.structures.FdStat.{FdStat}
 use Rattle.abi_structures.specs.declared.structures.FileStat.{FileStat}
 use Rattle.abi_structures.specs.declared.structures.Iovec.{Iovec}
 use Rattle.abi_structures.specs.declared.structures.RecvIn.{RecvIn}
-use Rattle.abi_types.specs.declared.call.Call.TheVariants.{FdPread, FdRead, FdStatGet, FileReaddir, FileReadlink, FileStatFget, FileStatGet, MemMap, Poll, RandomGet, SockRecv, SockSend, ThreadExit}
+use Rattle.abi_types.specs.declared.call.Call.TheVariants.{CondvarSignal, FdPread, FdRead, FdStatGet, FileReaddir, FileReadlink, FileStatFget, FileStatGet, LockUnlock, MemMap, Poll, RandomGet, SockRecv, SockSend, ThreadExit}
 use Rattle.abi_types.specs.declared.call.Lookup.{Lookup}
 use Rattle.abi_types.specs.declared.place.Place.TheVariants.{At}
 use Rattle.abi_types.specs.declared.reply.Payload.{Payload}
@@ -139,6 +139,18 @@ abbrev pub ExitWordIsWritten : Type 0
 ExitWordIsWritten =
     (m : Pages) (r : Registers) (left lock word scope becomes : ℕ) → args_of m r left ≡ ThreadExit lock word scope
     → IsOk (write_of m lock (to_le_bytes w32 becomes))
+
+-- Where lock_unlock is encoded, the word of the lock is written, whatever it becomes.
+abbrev pub UnlockWordIsWritten : Type 0
+UnlockWordIsWritten =
+    (m : Pages) (r : Registers) (left lock word scope becomes : ℕ) → args_of m r left ≡ LockUnlock lock word scope
+    → IsOk (write_of m lock (to_le_bytes w32 becomes))
+
+-- Where condvar_signal is encoded, the word of the condition variable is written, whatever it becomes.
+abbrev pub SignalWordIsWritten : Type 0
+SignalWordIsWritten =
+    (m : Pages) (r : Registers) (left condvar word scope n becomes : ℕ) → args_of m r left ≡ CondvarSignal condvar word scope n
+    → IsOk (write_of m condvar (to_le_bytes w32 becomes))
 
 -- each number of a descriptor is written, one directly behind the other
 abbrev pub AreNumbersWritten : Pages → ℕ → List ℕ → Type 0

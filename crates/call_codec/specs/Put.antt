@@ -6,7 +6,7 @@ use Rattle.abi_base.specs.declared.address_space.TheConstants.{PAGE_SIZE}
 use Rattle.abi_types.specs.declared.reply.Answer.{Answer}
 use Rattle.abi_types.specs.declared.reply.Answer.TheVariants as answer
 use Rattle.abi_types.specs.declared.call.Call.{Call}
-use Rattle.abi_types.specs.declared.call.Call.TheVariants.{ClockResGet, ClockTimeGet, FdCreate2, FdDup, FdPread, FdPwrite, FdRead, FdSeek, FdStatGet, FdWrite, FileOpen, FileReaddir, FileReadlink, FileStatFget, FileStatGet, MemMap, Memory, Poll, ProcFork, RandomGet, SockRecv, SockSend, ThreadCreate, ThreadExit}
+use Rattle.abi_types.specs.declared.call.Call.TheVariants.{ClockResGet, ClockTimeGet, CondvarSignal, FdCreate2, FdDup, FdPread, FdPwrite, FdRead, FdSeek, FdStatGet, FdWrite, FileOpen, FileReaddir, FileReadlink, FileStatFget, FileStatGet, LockUnlock, MemMap, Memory, Poll, ProcFork, RandomGet, SockRecv, SockSend, ThreadCreate, ThreadExit}
 use Rattle.abi_types.specs.declared.place.Place.{Place}
 use Rattle.abi_types.specs.declared.place.Place.TheVariants as place
 use Rattle.abi_types.specs.declared.place.Place.TheVariants.{At}
@@ -73,11 +73,13 @@ memory_after m r (SockRecv fd length fds flags) payload = with_received m r payl
 memory_after m r (SockSend fd bytes fds flags) payload = with_sent m r payload
 memory_after m r other payload = memory_with m r other
 
--- the memory with the words that a call gave which succeeded: poll's are written before its events, and thread_exit writes that of the
--- lock that it lets go. The calls that aren't named here write no word
+-- the memory with the words that a call gave which succeeded: poll's are written before its events, lock_unlock and thread_exit write that
+-- of the lock that they let go, and condvar_signal that of its condition variable. The calls that aren't named here write no word
 abbrev pub worded_memory : Pages → Call → WordWrites → Pages
 worded_memory m (Poll subscriptions) writes = with_words m writes
 worded_memory m (ThreadExit lock word scope) writes = with_words m writes
+worded_memory m (LockUnlock lock word scope) writes = with_words m writes
+worded_memory m (CondvarSignal condvar word scope n) writes = with_words m writes
 worded_memory m other writes = m
 
 -- the memory after an answer to a call of these registers

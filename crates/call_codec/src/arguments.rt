@@ -1,7 +1,7 @@
 //! From registers and memory to a call.
-ghost use Rattle.std.specs.Prelude.{◌≡◌, ◌&&◌, IfOk, IsTrue, OnErr};
+ghost use Rattle.std.specs.Prelude.{◌≡◌, IfOk, IsTrue, OnErr};
 ghost use Rattle.codec_arguments.specs.Reading.{LacksMemory, Reads};
-ghost use Rattle.call_codec.specs.Arguments.{AsksFor, args_of, is_built, is_copied, or_refused, read_of, encoded_call};
+ghost use Rattle.call_codec.specs.Arguments.{AsksFor, args_of, is_copied, or_refused, read_of};
 
 use crate::memory_calls::{mem_advise, mem_map, mem_protect, mem_sync, mem_unmap};
 use abi_types::{Call, CallNumber, Errno, Regs};
@@ -21,33 +21,12 @@ use codec_poll::poll;
 use guest_memory::GuestMemory;
 use std::alloc::{AllocError, Global};
 
-/// The call that the registers and the memory of a program that runs encode as a thread stands at an ECALL, whose process has so many
-/// turns left. A call that its arguments refuse is `Refused`, with its number and its error; so is one that isn't built, with NOSYS.
-/// Only mem_advise, mem_protect, mem_sync and mem_unmap are never refused so: they are `Memory`, with what they answer.
+/// The call that the registers and the memory of a program encode as a thread stands at an ECALL, whose process has so many turns left. A
+/// call that its arguments refuse is `Refused`, with its number and its error. Only mem_advise, mem_protect, mem_sync and mem_unmap are
+/// never refused so: they are `Memory`, with what they answer.
 #[tactic(auto, unfolding(crate::specs::Arguments::args_of))]
 pub fn args(alloc: Global, regs: &Regs, memory: &GuestMemory, left: u64) -> Result<Call, AllocError>
     ensures ok { IfOk result (λ call. call ≡ args_of memory.now regs.now left) }
-    ensures only { OnErr result (AsksFor (λ number. is_built number && is_copied number) regs.now) }
-{
-    let asked = regs.get(17);
-    match CallNumber::of(asked) {
-        Some(number) if is_built(number) => read_or_refuse(alloc, regs, memory, left, number),
-        Some(number) => Ok(Call::Refused {
-            number,
-            errno: Errno::Nosys,
-        }),
-        None => Ok(Call::Unknown { number: asked }),
-    }
-}
-
-/// The same for all 49 calls.
-pub fn read_call(
-    alloc: Global,
-    regs: &Regs,
-    memory: &GuestMemory,
-    left: u64,
-) -> Result<Call, AllocError>
-    ensures ok { IfOk result (λ call. call ≡ encoded_call memory.now regs.now left) }
     ensures only { OnErr result (AsksFor is_copied regs.now) }
 {
     let asked = regs.get(17);
@@ -72,62 +51,6 @@ fn read_or_refuse(
         Ok(call) => Ok(call),
         Err(ArgumentFault::Errno(errno)) => Ok(Call::Refused { number, errno }),
         Err(ArgumentFault::NoMemory) => Err(AllocError),
-    }
-}
-
-// Whether the kernel does the call.
-fn is_built(number: CallNumber) -> bool
-    ensures { result ≡ is_built number }
-{
-    match number {
-        CallNumber::ClockResGet
-        | CallNumber::ClockTimeGet
-        | CallNumber::FdClose
-        | CallNumber::FdCreate1
-        | CallNumber::FdCreate2
-        | CallNumber::FdDatasync
-        | CallNumber::FdDup
-        | CallNumber::FdPread
-        | CallNumber::FdPwrite
-        | CallNumber::FdRead
-        | CallNumber::FdReplace
-        | CallNumber::FdSeek
-        | CallNumber::FdStatGet
-        | CallNumber::FdStatPut
-        | CallNumber::FdSync
-        | CallNumber::FdWrite
-        | CallNumber::FileAdvise
-        | CallNumber::FileAllocate
-        | CallNumber::FileCreate
-        | CallNumber::FileLink
-        | CallNumber::FileOpen
-        | CallNumber::FileReaddir
-        | CallNumber::FileReadlink
-        | CallNumber::FileRename
-        | CallNumber::FileStatFget
-        | CallNumber::FileStatFput
-        | CallNumber::FileStatGet
-        | CallNumber::FileStatPut
-        | CallNumber::FileSymlink
-        | CallNumber::FileUnlink
-        | CallNumber::MemAdvise
-        | CallNumber::MemMap
-        | CallNumber::MemProtect
-        | CallNumber::MemSync
-        | CallNumber::MemUnmap
-        | CallNumber::Poll
-        | CallNumber::ProcExec
-        | CallNumber::ProcExit
-        | CallNumber::ProcFork
-        | CallNumber::ProcRaise
-        | CallNumber::RandomGet
-        | CallNumber::SockRecv
-        | CallNumber::SockSend
-        | CallNumber::SockShutdown
-        | CallNumber::ThreadCreate
-        | CallNumber::ThreadExit
-        | CallNumber::ThreadYield => true,
-        CallNumber::CondvarSignal | CallNumber::LockUnlock => false,
     }
 }
 

@@ -1,8 +1,8 @@
 //! Laws of the definitions. The functions do nothing.
-ghost use Rattle.call_codec.specs.GivenLaws.{BuiltIsEncoded, EncodedHasFewRanges, GivenAtCall, WokenEventsAreWritten, WokenMessageIsWritten, WokenReadIsWritten};
+ghost use Rattle.call_codec.specs.GivenLaws.{EncodedHasFewRanges, GivenAtCall, WokenEventsAreWritten, WokenMessageIsWritten, WokenReadIsWritten};
 ghost use Rattle.call_codec.specs.GivenLaws.{WokenSentIsWritten, WokenWordIsWritten};
 ghost use Rattle.call_codec.specs.OutputLaws.{EntriesAreWritten, EventsAreWritten, ExitWordIsWritten, FoundStateIsWritten, LinkIsWritten, MappingIsFilled, MessageIsWritten};
-ghost use Rattle.call_codec.specs.OutputLaws.{OpenStateIsWritten, PreadIsWritten, RandomIsWritten, ReadIsWritten, SentIsWritten, StateIsWritten, WordsAreWritten};
+ghost use Rattle.call_codec.specs.OutputLaws.{OpenStateIsWritten, PreadIsWritten, RandomIsWritten, ReadIsWritten, SentIsWritten, SignalWordIsWritten, StateIsWritten, UnlockWordIsWritten, WordsAreWritten};
 ghost use Rattle.call_codec.specs.Processes.{ChildGoesOn, ExecIsBounded, ForkHasTurns, RaisedIsSignal};
 ghost use Rattle.call_codec.specs.Refusals.{AdviseIsListed, MapIsListed, ProtectIsListed, SyncIsListed, UnmapIsListed};
 ghost use Rattle.call_codec.specs.StartBlock.{ArgdataStands, CanaryStands, VectorStands};
@@ -42,7 +42,8 @@ pub fn processes_go_on()
 /// The output of a call that registers and memory encode is written whole: no write of bytes that were read, as many as the call
 /// asks for or has room for at most, of as many random ones as it asks for, and none of the state of a descriptor or of a file is
 /// refused. The pages that mem_map makes have the bytes that it gives, and zeros behind them. As many events as poll has subscriptions
-/// are written, and so are the words of the lock and the condition variable that it waits for, and of the lock that thread_exit lets go.
+/// are written, and so are the words of the lock and the condition variable that it waits for, of the lock that lock_unlock or thread_exit
+/// lets go, and of the condition variable that condvar_signal signals.
 /// A message that sock_recv takes is written whole, and so is how much sock_send sent.
 pub fn output_is_written()
     ensures pread { PreadIsWritten }
@@ -57,14 +58,15 @@ pub fn output_is_written()
     ensures events { EventsAreWritten }
     ensures words { WordsAreWritten }
     ensures exit_word { ExitWordIsWritten }
+    ensures unlock_word { UnlockWordIsWritten }
+    ensures signal_word { SignalWordIsWritten }
     ensures message { MessageIsWritten }
     ensures sent { SentIsWritten }
 {}
 
 /// What a thread that waited in a call is given when it goes on. Where its registers and memory encode the call as they did, it is the
 /// word that the call has; and where it is given a word, the output of the call is written whole, though its memory may have changed.
-/// Registers that encoded a call name few ranges. A call of a program that runs, if it isn't refused, is encoded as if all calls were
-/// built.
+/// Registers that encoded a call name few ranges.
 pub fn wakes_are_given()
     ensures at_call { GivenAtCall }
     ensures read { WokenReadIsWritten }
@@ -73,5 +75,4 @@ pub fn wakes_are_given()
     ensures sent { WokenSentIsWritten }
     ensures word { WokenWordIsWritten }
     ensures few { EncodedHasFewRanges }
-    ensures built { BuiltIsEncoded }
 {}

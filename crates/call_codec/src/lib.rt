@@ -2,7 +2,7 @@
 //! the call that registers and memory encode, and the registers and memory after an answer.
 #![tactic(auto)]
 
-pub use arguments::{args, read_call};
+pub use arguments::args;
 pub use code::may_change_code;
 pub use image::load;
 pub use laws::{

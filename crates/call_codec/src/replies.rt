@@ -181,7 +181,9 @@ fn put_output(regs: &Regs, memory: &mut GuestMemory, call: &Call, reply: &Reply)
         Call::RandomGet { .. } => put_payload(memory, regs.get(10), payload),
         Call::SockRecv { .. } => put_received(regs, memory, payload),
         Call::SockSend { .. } => put_sent(regs, memory, payload),
-        Call::ThreadExit { .. } => put_words(memory, &reply.writes),
+        Call::CondvarSignal { .. } | Call::LockUnlock { .. } | Call::ThreadExit { .. } => {
+            put_words(memory, &reply.writes);
+        }
         _ => {}
     }
 }

@@ -1,7 +1,7 @@
 //! A process as the machine has it: its memory, its threads' registers, and the turns that it has left.
-ghost use Rattle.std.specs.Prelude.{◌≡◌, ◌&&◌, ◌<◌, IsFalse, IsSome, ℕ, IfOk, OnErr, true};
+ghost use Rattle.std.specs.Prelude.{◌≡◌, ◌<◌, IsFalse, IsSome, ℕ, IfOk, OnErr, true};
 ghost use Rattle.std.specs.FinMap as map;
-ghost use Rattle.call_codec.specs.Arguments.{args_of, is_built, is_copied, AsksFor, Encodes};
+ghost use Rattle.call_codec.specs.Arguments.{args_of, is_copied, AsksFor, Encodes};
 ghost use Rattle.call_codec.specs.Given.{given_of, CanWait};
 ghost use Rattle.call_codec.specs.Put.{HasFewRanges, MayMapFor};
 ghost use Rattle.call_codec.specs.Start.{MayStart, canary};
@@ -108,7 +108,7 @@ impl Guest {
     pub fn call(&self, alloc: Global, tid: Tid) -> Result<Call, AllocError>
         requires thread { IsSome (map.get self.now.regs tid) }
         ensures ok { IfOk result (λ call. call ≡ args_of self.now.memory (registers_of self.now tid) self.now.left) }
-        ensures only { OnErr result (AsksFor (λ number. is_built number && is_copied number) (registers_of self.now tid)) }
+        ensures only { OnErr result (AsksFor is_copied (registers_of self.now tid)) }
     {
         let regs = self.regs.get(u64::from(tid.0)).unwrap();
         args(alloc, regs, &self.memory, self.left)

@@ -2,7 +2,7 @@
 --     entry_state, entry_fits, entry_dead, entry_guest      an entry of any act
 --     call_leaves, call_answered, call_set, call_runs, call_waits, call_left, call_keeps, call_alone, call_makes      a call
 --     fork_replies, fork_lives      a proc_fork
---     wake_leaves, wake_answered, wake_runs, wake_stays      a wake
+--     wake_leaves, wake_answered, wake_runs, wake_waits, wake_stays      a wake
 --     end_leaves      an end from outside
 --     recorded_next      what stands behind the lock after an entry
 use Rattle.std.proofs.Common.{◌≡◌, ◌≢◌, ℕ, ◌+◌, Bool, true, false, List, [], ◌∷◌, ◌++◌, Option, None, Some, IsSome, inl, inr, refl, sym, ap, subst, ◌∙◌}
@@ -18,6 +18,7 @@ use Rattle.abi_types.specs.declared.call.Call.TheVariants.{ProcFork}
 use Rattle.abi_types.specs.declared.constants.Constants.{Constants}
 use Rattle.abi_types.specs.declared.status.Status.TheVariants.{Live}
 use Rattle.abi_types.specs.declared.thread.Thread.{Thread}
+use Rattle.abi_types.specs.declared.thread.Stage.TheVariants.{Queued}
 use Rattle.abi_types.specs.declared.thread.Thread.TheVariants.{Runnable, Waits}
 use Rattle.abi_types.specs.declared.wake.WakeIn.{WakeIn}
 use Rattle.abi_types.specs.declared.who.Who.{Who}
@@ -32,7 +33,8 @@ use Rattle.kernel_model.specs.State.{State, thread_of}
 use Rattle.kernel_model.specs.Step.{IsStep, end_state}
 use Rattle.kernel_model.specs.Valid.{IsValid}
 use Rattle.kernel_model.specs.Families.ForkCalls.{child_number}
-use Rattle.kernel_model.specs.Threads.{child_told, ends_caller, ends_others, makes_thread, next_number, IsCallerAfter, LeavesThreads}
+use Rattle.kernel_model.specs.Families.Locks.{with_word}
+use Rattle.kernel_model.specs.Threads.{child_told, ends_caller, ends_others, makes_thread, next_number, stays, IsCallerAfter, IsMoved, LeavesThreads}
 use Rattle.kernel_model.specs.Waits.{may_wait, waiting, IsParked, MayWait, WaitsIn}
 use Rattle.kernel_model.specs.Wakes.{is_ready, HasThread, IsWake}
 use Rattle.kernel_model.proofs.ForkLaws.{child_is_new, fork_makes_child}
@@ -41,7 +43,7 @@ use Rattle.kernel_model.proofs.Refusals.{error_keeps}
 use Rattle.kernel_model.proofs.Sending.{succeeds_or}
 use Rattle.kernel_model.proofs.Steps.{fork_tells_child, step_moves_only}
 use Rattle.kernel_model.proofs.Tests.{not_true}
-use Rattle.kernel_model.proofs.Waking.{wake_keeps, wake_moves_only}
+use Rattle.kernel_model.proofs.Waking.{wake_keeps, wake_moves_none, wake_moves_only}
 use Rattle.maps.specs.Maps.{get-insert-other, get-insert-same}
 use Rattle.call_codec.specs.Arguments.{args_of}
 use Rattle.call_codec.specs.Given.{given_of}
@@ -49,7 +51,7 @@ use Rattle.guest_process.specs.Children.{IsFork}
 use Rattle.run_model.specs.Ends.{EndsBy}
 use Rattle.run_model.specs.Legal.{Asks, FitsAct, Fits, IsRunnable}
 use Rattle.run_model.specs.Own.{is_idle, IsLiveIn}
-use Rattle.run_model.specs.World.{World, Guest, world, apply, acted, made_since, thread_at, turned, turned_guest_by, or_no_guest, guest_of, registers_of, called_state, answered_guest, child_guest, with_child, woken_state}
+use Rattle.run_model.specs.World.{World, Guest, world, apply, acted, come_to, made_since, thread_at, turned, turned_guest_by, or_no_guest, guest_of, registers_of, called_state, answered_guest, child_guest, with_child, woken_state}
 use Rattle.run_model.proofs.Calls.{called_is, woken_is, runs_on, ended_by}
 use Rattle.run_model.proofs.Ends.{acted_end, end_is_answered, ends_not_live}
 use Rattle.run_model.proofs.Histories.{world_more, world_constants, legal_more, apply_is, guest_turned}
@@ -108,13 +110,13 @@ module _ (launch : Launch) (log : List Entry) (p t : ℕ) (turns : List ℕ) (a 
     pub entry_has : (P : State → Type 0) → P kernel → P (world launch (log ++ e ∷ [])).state
     entry_has P there = subst P (state_next launch log e kernel entry_state) there
 
-    -- the other threads of the process are what the kernel has of them
-    pub entry_keeps : (x : ℕ) → ((u : ℕ) → u ≢ x → thread_of kernel p u ≡ thread_of w.state p u) → KeepsBut launch log (log ++ e ∷ []) p x
-    entry_keeps x keeps u apart = entry_has (λ S. thread_of S p u ≡ thread_of w.state p u) (keeps u apart)
+    -- the other threads of the process are what the kernel makes of them
+    pub entry_keeps : (x : ℕ) → ((u : ℕ) → u ≢ x → IsMoved (thread_of w.state p u) (thread_of kernel p u)) → KeepsBut launch log (log ++ e ∷ []) p x
+    entry_keeps x keeps u apart = entry_has (λ S. IsMoved (thread_of w.state p u) (thread_of S p u)) (keeps u apart)
 
     -- one thread more runs, if the kernel has one more
     pub entry_starts : (x : ℕ) → thread_of w.state p x ≡ None → x ≡ next_number w.state p → IsRunnable kernel p x
-        → ((u : ℕ) → u ≢ x → thread_of kernel p u ≡ thread_of w.state p u) → HasStarted launch log (log ++ e ∷ []) p x
+        → ((u : ℕ) → u ≢ x → IsMoved (thread_of w.state p u) (thread_of kernel p u)) → HasStarted launch log (log ++ e ∷ []) p x
     entry_starts x absent numbered runs keeps = record {
       absent = absent;
       numbered = numbered;
@@ -171,7 +173,7 @@ some_answer = answer.Reply (refused Nosys)
 
 -- a thread that runs makes its call at the moment after the entry's time
 runs_at : (S : State) (p t : ℕ) → IsRunnable S p t → thread_at S p t ≡ caller S p t
-runs_at S p t runs = ap (λ (o : Option Thread). record { pid = p; tid = t; since = made_since (S.clock + 1000) o }) runs
+runs_at S p t runs = ap (λ (o : Option Thread). record { pid = p; tid = t; since = made_since (S.clock + 1000) o; stage = come_to o }) runs
 
 module _ (w : World) (p t : ℕ) (turns : List ℕ) (guest : Guest) (call : Call) (a : AsksCall w p t turns guest call) where
   -- the thread that makes the call is runnable
@@ -187,15 +189,15 @@ caller_waits : (waits : Thread) (given : Answer) (before after : Option Thread) 
 caller_waits waits (answer.Parked writes) before after parks is runs = is ∙ ap (option_map (λ (thread : Thread). waits)) runs
 caller_waits waits (answer.Reply reply) before after parks is runs = absurd (not_true parks)
 
--- a thread that was not there comes only where one is made
-still_none : (o before : Option Thread) → before ≡ None → (IsSome o → ⊥) → o ≡ before
-still_none None before none never = sym none
-still_none (Some thread) before none never = absurd (never refl)
+-- what became of a thread that was there, or that there is none still
+moved_or_none : (before after : Option Thread) → (IsSome before → IsMoved before after) → (before ≡ None → IsSome after → ⊥) → IsMoved before after
+moved_or_none None None there never = stays None
+moved_or_none None (Some thread) there never = absurd (never refl refl)
+moved_or_none (Some thread) after there never = there refl
 
--- what a thread was, or that there was none
-kept_or_none : (before after : Option Thread) → (IsSome before → after ≡ before) → (before ≡ None → IsSome after → ⊥) → after ≡ before
-kept_or_none None after there never = still_none after None refl (never refl)
-kept_or_none (Some thread) after there never = there refl
+-- a thread that is what it was
+pub moved_same : (before after : Option Thread) → after ≡ before → IsMoved before after
+moved_same before after same = subst (IsMoved before) (sym same) (stays before)
 
 -- the guest of another process than the child is what it is without the child
 child_elsewhere : (o : Option ℕ) (child : Guest) (guests : FinMap nat_cmp Guest) (p : ℕ) → o ≢ Some p → get (with_child o child guests) p ≡ get guests p
@@ -258,11 +260,11 @@ module _ (launch : Launch) (log : List Entry) (p t : ℕ) (turns : List ℕ) (ca
   pub call_left : ends_caller call given ≡ true → get kernel.statuses p ≡ Some Live → thread_of kernel p t ≡ None
   call_left ends live = (left_threads live).ended ends
 
-  -- where the call doesn't end the others, each is what it was, and only the one comes that the call makes
+  -- where the call doesn't end the others, each is what it was, or was given a lock or signalled, and only the one comes that the call makes
   pub call_keeps : ends_others call given ≡ false → get kernel.statuses p ≡ Some Live → (u : ℕ) → u ≢ t → (makes_thread call given ≡ true → u ≢ next_number before.state p)
-      → thread_of kernel p u ≡ thread_of before.state p u
+      → IsMoved (thread_of before.state p u) (thread_of kernel p u)
   call_keeps stay live u apart old =
-      kept_or_none (thread_of before.state p u) (thread_of kernel p u)
+      moved_or_none (thread_of before.state p u) (thread_of kernel p u)
       (λ there. (left_threads live).others u apart there stay)
       (λ none there. let made = (left_threads live).made u none there in old made.0 made.1)
 
@@ -278,8 +280,8 @@ module _ (launch : Launch) (log : List Entry) (p t : ℕ) (turns : List ℕ) (ca
   -- where it is to wait, it does so
   pub call_waits : is_parked given ≡ true → get kernel.statuses p ≡ Some Live → (thread : Thread) × HasThread kernel p t thread × IsParked thread
   call_waits parks live = (
-    waiting launch.constants call who.since,
-    caller_waits (waiting launch.constants call who.since) given (thread_of before.state p t) (thread_of kernel p t) parks
+    waiting launch.constants call who (before.state.clock + 1000),
+    caller_waits (waiting launch.constants call who (before.state.clock + 1000)) given (thread_of before.state p t) (thread_of kernel p t) parks
         ((left_threads live).caller (let writes = parked_is given parks in ap (ends_caller call) writes.1 ∙ parked_ends call writes.0))
         (call_runnable before p t turns guest call a),
     tt,
@@ -325,13 +327,13 @@ fork_lives constants S one _ given T fork valid step live = absurd fork
 pub kept_waits : (S : State) (p t : ℕ) (call : Call) (o : Option Thread) → thread_of S p t ≡ o → Some call ≡ kept_call o → WaitsIn S (thread_at S p t) call
 kept_waits S p t call None is kept = absurd (cc)
 kept_waits S p t call (Some Runnable) is kept = absurd (cc)
-kept_waits S p t call (Some (Waits other since until)) is kept =
+kept_waits S p t call (Some (Waits other since until stage)) is kept =
     let same : other ≡ call = cc in
-    (until, is ∙ (λ i. Some (Waits (same i) (sym (ap (made_since (S.clock + 1000)) is) i) until)))
+    (until, stage, ap come_to is, is ∙ (λ i. Some (Waits (same i) (sym (ap (made_since (S.clock + 1000)) is) i) until stage)))
 
 -- a valid state's thread waits only in a call in which it may
 pub waits_may : (S : State) (one : Who) (call : Call) → IsValid S → WaitsIn S one call → may_wait call ≡ true
-waits_may S one call valid waits = subst MayWait waits.1 (valid.nearly.waits one.pid one.tid)
+waits_may S one call valid waits = (subst MayWait waits.3 (valid.nearly.waits one.pid one.tid)).0
 
 module _ (launch : Launch) (log : List Entry) (p t : ℕ) (turns : List ℕ) (call : Call) (given : WakeIn) (answered : Answer) (guest : Guest) (kernel : State)
     (a : AsksWake (world launch log) p t turns guest) (valid : IsValid (world launch log).state)
@@ -357,18 +359,26 @@ module _ (launch : Launch) (log : List Entry) (p t : ℕ) (turns : List ℕ) (ca
     (ready, subst (IsWake launch.constants start.state sleeper call given answered) wake_is woken),
   )
 
-  -- the thread runs then, if its process is live
-  pub wake_runs : get kernel.statuses p ≡ Some Live → IsRunnable kernel p t
-  wake_runs live =
-      (wake_moves_only launch.constants start.state sleeper call given answered kernel woken).runs live (subst IsSome (sym waits.1) refl)
-      (wake_keeps start.state sleeper call answered valid waits).0
+  -- the thread runs then, if its process is live and its call has a reply
+  pub wake_runs : is_parked answered ≡ false → get kernel.statuses p ≡ Some Live → IsRunnable kernel p t
+  wake_runs replies live =
+      (wake_moves_only launch.constants start.state sleeper call given answered kernel woken).runs live (subst IsSome (sym waits.3) refl)
+      (wake_keeps start.state sleeper call answered valid waits).0 replies
+
+  -- and else it waits
+  pub wake_waits : is_parked answered ≡ true → get kernel.statuses p ≡ Some Live → (thread : Thread) × HasThread kernel p t thread × IsParked thread
+  wake_waits parks live =
+      let on = (wake_moves_only launch.constants start.state sleeper call given answered kernel woken).queues live (subst IsSome (sym waits.3) refl) parks in
+      (Waits (with_word on.0 call) sleeper.since None (Queued kernel.clock on.1), on.2, tt)
 
   -- the others are what they were, and none comes
-  pub wake_stays : get kernel.statuses p ≡ Some Live → (u : ℕ) → u ≢ t → thread_of kernel p u ≡ thread_of start.state p u
+  pub wake_stays : get kernel.statuses p ≡ Some Live → (u : ℕ) → u ≢ t → IsMoved (thread_of start.state p u) (thread_of kernel p u)
   wake_stays live u apart =
       let moves = wake_moves_only launch.constants start.state sleeper call given answered kernel woken in
       let keeps = wake_keeps start.state sleeper call answered valid waits in
-      kept_or_none (thread_of start.state p u) (thread_of kernel p u) (λ there. moves.threads live u apart there keeps.1)
+      let none_moves = wake_moves_none launch.constants start.state sleeper call given answered kernel woken valid waits in
+      moved_or_none (thread_of start.state p u) (thread_of kernel p u)
+      (λ there. moved_same (thread_of start.state p u) (thread_of kernel p u) (moves.threads live u apart there keeps.1 none_moves))
       (λ none there. not_true (sym keeps.2 ∙ (moves.made live u none there).0))
 
 -- ---- an end from outside

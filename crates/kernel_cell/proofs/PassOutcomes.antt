@@ -6,6 +6,7 @@ use Rattle.std.proofs.Common.{◌≡◌, ◌≢◌, ℕ, ◌+◌, Bool, true, fa
 use Rattle.std.specs.FinMap.{get}
 use Rattle.abi_types.specs.declared.status.Status.TheVariants.{Live}
 use Rattle.abi_types.specs.declared.call.Call.{Call}
+use Rattle.abi_types.specs.declared.thread.Thread.{Thread}
 use Rattle.abi_types.specs.declared.thread.Thread.TheVariants.{Waits}
 use Rattle.run_types.specs.declared.history.Act.{Act}
 use Rattle.run_types.specs.declared.history.Act.TheVariants as act
@@ -13,9 +14,10 @@ use Rattle.run_types.specs.declared.history.Entry.{Entry}
 use Rattle.run_types.specs.declared.launch.Launch.{Launch}
 use Rattle.tree_model.specs.Grants.{MayBegin}
 use Rattle.kernel_model.specs.State.{State, counts_in, thread_in, thread_of}
+use Rattle.kernel_model.specs.Threads.{IsMoved}
 use Rattle.run_model.specs.Legal.{AreWhole, Asks, Legal}
 use Rattle.run_model.specs.Own.{is_idle, own, Made, IsLiveIn, Same}
-use Rattle.run_model.specs.World.{Guest, made_since as since_made, thread_at, world, guest_of, turned_guest_by}
+use Rattle.run_model.specs.World.{Guest, come_to, made_since as since_made, thread_at, world, guest_of, turned_guest_by}
 use Rattle.run_model.proofs.Histories.{legal_more}
 use Rattle.run_model.proofs.Asks.{asks_stay, whole_there}
 use Rattle.run_model.proofs.Own.{made_later, same_threads, left_alone}
@@ -53,12 +55,17 @@ module _ (launch : Launch) (p : ℕ) (seen log : List Entry) (legal : Legal laun
 pub seen_since : (launch : Launch) (p : ℕ) (seen log : List Entry) → Legal launch log → IsSeen launch p seen → Later p seen log → IsSeen launch p log
 seen_since launch p seen log legal was later = record { legal = legal; made = made_since launch p seen log legal later was.made }
 
--- the moment since which a thread does an act matters where it waits, and there the call that it waits in says it
+-- the moment since which a thread does an act, and how far its wait has come, matter where it waits, and there the call that it waits in says them
 asks_at : (S T : State) (p t : ℕ) (guest : Guest) (turns : List ℕ) (a : Act) → Asks T (thread_at S p t) guest turns a → Asks T (thread_at T p t) guest turns a
 asks_at S T p t guest turns (act.Call call given) asks = asks
 asks_at S T p t guest turns (act.Wake call given answered) asks = (
   asks.0,
-  (asks.1.0, asks.1.1 ∙ ap (λ (x : ℕ). Some (Waits call x asks.1.0)) (sym (ap (since_made (T.clock + 1000)) asks.1.1))),
+  (
+    asks.1.0,
+    asks.1.1,
+    ap come_to asks.1.3,
+    asks.1.3 ∙ ap (λ (x : ℕ). Some (Waits call x asks.1.0 asks.1.1)) (sym (ap (since_made (T.clock + 1000)) asks.1.3)),
+  ),
   asks.2,
 )
 asks_at S T p t guest turns (act.Trap signal) asks = asks
@@ -187,7 +194,8 @@ module _ (launch : Launch) (begins : MayBegin launch.tree launch.grants) (v : Pa
 
   keeps_then : (moment : ℕ) (a : Act) (after : List Entry) (x : ℕ) → is_idle a ≡ false
       → Appends launch log (entry_of (head_of moment v.pid t turns) a) after → KeepsBut launch log after v.pid x → KeepsBut launch v.seen after v.pid x
-  keeps_then moment a after x busy came keeps u apart = keeps u apart ∙ threads_then moment a after busy came u
+  keeps_then moment a after x busy came keeps u apart =
+      subst (λ (o : Option Thread). IsMoved o (thread_of (world launch after).state v.pid u)) (threads_then moment a after busy came u) (keeps u apart)
 
   keeps_call : (call : Call) (after : List Entry) (x : ℕ) → AppendsCall launch log v.pid t turns call after → KeepsBut launch log after v.pid x
       → KeepsBut launch v.seen after v.pid x
@@ -249,6 +257,11 @@ module _ (launch : Launch) (begins : MayBegin launch.tree launch.grants) (v : Pa
     on.1,
     keeps_then on.0.moment (act.Wake on.0.call on.0.given on.0.answered) after t refl on.0.came on.2,
   )
+  woken_tells guest after woken.Parks on = (
+    added_wake after on.0,
+    on.1,
+    keeps_then on.0.moment (act.Wake on.0.call on.0.given on.0.answered) after t refl on.0.came on.2,
+  )
   woken_tells guest after woken.Ends on = (added_wake after on.0, on.1)
   woken_tells guest after woken.NotReady on = (looked after on.0, still after (λ h. IsNotReady launch h v.pid t) on.0 on.1)
   woken_tells guest after woken.Gone on = (looked after on.0, still after (λ h. ¬ IsLiveIn (world launch h) v.pid) on.0 on.1)
@@ -282,6 +295,7 @@ module _ (launch : Launch) (begins : MayBegin launch.tree launch.grants) (v : Pa
 
   pub woken_seen : (guest : Guest) (after : List Entry) (result : Woken) → IsWoken launch v t turns guest (now after) result → IsSeen launch v.pid after
   woken_seen guest after woken.Runs tells = tells.0.added.seen
+  woken_seen guest after woken.Parks tells = tells.0.added.seen
   woken_seen guest after woken.Ends tells = tells.0.added.seen
   woken_seen guest after woken.NotReady tells = tells.0.seen
   woken_seen guest after woken.Gone tells = tells.0.seen

@@ -4,7 +4,7 @@
 --     few_there      the number of the next thread is small
 --     call_runs_there, other_there, number_there, fits_call, recorded_call, came_call, came_given, goes_call, keeps_call, acted_or_lost      a call
 --     no_child, keeps_any      a call that makes no child, and what is left of its guest
---     waits_there, wake_can, wake_few, same_given, fits_wake, recorded_wake, woken_runs, woken_ends, woken_not, woken_none      a wake
+--     waits_there, wake_can, wake_few, same_given, fits_wake, recorded_wake, keeps_none, woken_there, woken_not, woken_none      a wake
 --     fits_end, recorded_end, stopped_done      an end from outside
 --     fits_jump, recorded_jump, appends_jump, busy_there, stalled_there      an idle jump
 use Rattle.std.proofs.Common.{◌≡◌, ◌≢◌, inl, inr, ◌+◌, ◌-◌, ◌^◌, ◌<◌, ◌≤◌, ℕ, Bool, true, false, List, [], ◌∷◌, ◌++◌, length, Option, None, Some, IsSome, IsTrue, ◌↔◌, refl, sym, ap, subst, ◌∙◌, arith}
@@ -21,6 +21,7 @@ use Rattle.maps.specs.Maps.{get-insert-same}
 use Rattle.abi_types.specs.declared.constants.Constants.{Constants}
 use Rattle.abi_types.specs.declared.status.Status.{Status}
 use Rattle.abi_types.specs.declared.status.Status.TheVariants.{Live}
+use Rattle.abi_types.specs.declared.thread.Stage.{Stage}
 use Rattle.abi_types.specs.declared.thread.Thread.{Thread}
 use Rattle.abi_types.specs.declared.thread.Thread.TheVariants.{Runnable, Waits}
 use Rattle.abi_types.specs.declared.wake.WakeIn.{WakeIn}
@@ -38,7 +39,7 @@ use Rattle.kernel_model.specs.Deadlines.{idle_state}
 use Rattle.kernel_model.specs.Outcome.{is_parked}
 use Rattle.kernel_model.specs.State.{ProcessState, State, counts_in, thread_of}
 use Rattle.kernel_model.specs.Step.{IsStep, end_state}
-use Rattle.kernel_model.specs.Threads.{child_told, ends_caller, ends_others, first_result, makes_thread, next_number}
+use Rattle.kernel_model.specs.Threads.{child_told, ends_caller, ends_others, first_result, makes_thread, next_number, IsMoved}
 use Rattle.kernel_model.specs.Valid.{IsValid}
 use Rattle.kernel_model.specs.Waits.{WaitsIn}
 use Rattle.kernel_model.specs.Wakes.{is_ready, is_ready_as, IsStalled, IsWake, MayJump}
@@ -55,9 +56,10 @@ use Rattle.run_model.proofs.Histories.{world_constants}
 use Rattle.run_model.proofs.ThreadLaws.{numbers_suffice}
 use Rattle.run_model.proofs.ThreadRegisters.{parked_makes}
 use Rattle.run_model.proofs.Waited.{parked_is}
+use Rattle.run_model.proofs.Words.{few_of_call}
 use Rattle.run_model.proofs.WaitingRegisters.{may_can, waits_are_encoded, whole_keeps}
 use Rattle.run_model.proofs.Worlds.{world_is_valid}
-use Rattle.kernel_cell.specs.Acting.{AsksCall, AsksEnd, AsksWake, Appends, AppendsCall, AppendsWake, GoesOn, HasLeft, HasNoChild, HasStarted, IsAlone, IsDead, IsActedOn, IsIdledOn, IsStoppedOn, IsWokenOn, KeepsBut, KeepsGuest, WaitsOn, act_of, acted_so, call_end, end_of, status_of, unless_lost}
+use Rattle.kernel_cell.specs.Acting.{AsksCall, AsksEnd, AsksWake, Appends, AppendsCall, AppendsWake, GoesOn, HasLeft, HasNoChild, HasStarted, IsAlone, IsDead, IsActedOn, IsIdledOn, IsStoppedOn, IsWokenOn, KeepsBut, KeepsGuest, KeepsTurns, WaitsOn, act_of, acted_so, call_end, end_of, status_of, unless_lost, woken_so}
 use Rattle.shared_history.specs.Entries.{head_of, entry_of, answered_call, idled}
 use Rattle.shared_history.specs.Kept.{Takes}
 use Rattle.kernel_cell.specs.Recorded.{IsRecorded}
@@ -68,14 +70,15 @@ use Rattle.kernel_cell.specs.declared.results.CallEnd.TheVariants as ending
 use Rattle.kernel_cell.specs.declared.results.EndBy.{EndBy}
 use Rattle.kernel_cell.specs.declared.results.Idled.TheVariants as idle
 use Rattle.kernel_cell.specs.declared.results.Stopped.TheVariants as stopped
+use Rattle.kernel_cell.specs.declared.results.Woken.{Woken}
 use Rattle.kernel_cell.specs.declared.results.Woken.TheVariants as woken
-use Rattle.kernel_cell.proofs.EntryEffects.{recorded_next, entry_state, entry_fits, entry_dead, entry_goes, entry_has, entry_keeps, entry_left, entry_starts, entry_waits, call_runnable, call_leaves, call_answered, call_set, call_runs, call_waits, call_left, call_keeps, call_alone, call_makes, kept_waits, waits_may, wake_leaves, wake_answered, wake_runs, wake_stays, end_leaves, end_answered, end_dead}
+use Rattle.kernel_cell.proofs.EntryEffects.{recorded_next, entry_state, entry_fits, entry_dead, entry_goes, entry_has, entry_keeps, entry_left, entry_starts, entry_waits, call_runnable, call_leaves, call_answered, call_set, call_runs, call_waits, call_left, call_keeps, call_alone, call_makes, kept_waits, moved_same, waits_may, wake_leaves, wake_answered, wake_runs, wake_stays, wake_waits, end_leaves, end_answered, end_dead}
 
 -- a thread of which no call is kept isn't ready
 none_ready : (constants : Constants) (S : State) (p t : ℕ) (o : Option Thread) → None ≡ kept_call o → is_ready_as constants S p t o ≡ false
 none_ready constants S p t None none = refl
 none_ready constants S p t (Some Runnable) none = refl
-none_ready constants S p t (Some (Waits call since until)) none = absurd (cc)
+none_ready constants S p t (Some (Waits call since until stage)) none = absurd (cc)
 
 -- what a thread is given is given for the call that is kept of it
 pub same_given : (guest : Guest) (t : ℕ) (seen call : Call) (o : Option Call) (given : WakeIn) → Some seen ≡ o → Some call ≡ o
@@ -117,6 +120,16 @@ other_number t next (Some new) number apart = λ same. apart (same ∙ number)
 pub no_child : (call : Call) (given : Answer) → HasNoChild call → child_told call given ≡ None
 no_child (ProcFork left) given plain = absurd plain
 no_child _ given plain = refl
+
+-- no turn waits for its entry where one came
+pub keeps_none : (guest after : Guest) (turns turns' : List ℕ) (result : Woken) (lives waits : Bool) → result ≡ woken_so lives waits → turns' ≡ []
+    → KeepsTurns guest after turns turns' result
+keeps_none guest after turns turns' result lives waits so none = subst (KeepsTurns guest after turns turns') (sym so) (by lives waits)
+  where
+    by : (live parks : Bool) → KeepsTurns guest after turns turns' (woken_so live parks)
+    by false parks = none
+    by true false = none
+    by true true = none
 
 -- the guest may change where an entry came
 pub keeps_any : {X E : Type 0} (guest after : Guest) (begun : Result X E) (result : Acted) (lives : Bool) (end : CallEnd) (next : ℕ)
@@ -313,12 +326,13 @@ module _ (launch : Launch) (all : Bool) (log : List Entry) (before : State) (con
 
           -- where a thread is made the one that made it is what it was too
           keeps_maker : get kernel.statuses p ≡ Some Live → is_parked given ≡ false → makes_thread call given ≡ true → (u : ℕ)
-              → u ≢ next_number w.state p → thread_of kernel p u ≡ thread_of w.state p u
+              → u ≢ next_number w.state p → IsMoved (thread_of w.state p u) (thread_of kernel p u)
           keeps_maker on replies makes u old =
               elim (eqb_tells u t) [
-                | inl same ↦ subst (λ k. thread_of kernel p k ≡ thread_of w.state p k) (sym same.1)
+                | inl same ↦ subst (λ k. IsMoved (thread_of w.state p k) (thread_of kernel p k)) (sym same.1)
+                    (moved_same (thread_of w.state p t) (thread_of kernel p t)
                     (call_runs launch log p t turns call given guest kernel a step_there replies (makes_lasts call given makes) on
-                    ∙ sym (call_runnable w p t turns guest call a))
+                    ∙ sym (call_runnable w p t turns guest call a)))
                 | inr apart ↦ call_keeps launch log p t turns call given guest kernel a step_there (makes_stays call given makes) on u apart.1 (λ _. old)
               ]
 
@@ -381,28 +395,37 @@ module _ (launch : Launch) (all : Bool) (log : List Entry) (before : State) (con
     waits_there = kept_waits w.state p t call (thread_of w.state p t) refl (there (λ c S. Some call ≡ kept_call (thread_of S p t)) kept_is)
 
     -- in the kernel's own state too
-    pub waits_here : WaitsIn before (waiter p t sleeper.since) call
-    waits_here = subst (λ (S : State). WaitsIn S (waiter p t sleeper.since) call) (sym r.state) waits_there
+    abbrev sleeper_here : Who
+    sleeper_here = waiter p t sleeper.since waits_there.1
+
+    same_sleeper : sleeper_here ≡ sleeper
+    same_sleeper = ap (λ (o : Option Stage). record { pid = p; tid = t; since = sleeper.since; stage = o }) (sym waits_there.2)
+
+    waits_here : WaitsIn before sleeper_here call
+    waits_here = subst (λ (x : Who × State). WaitsIn x.1 x.0 call) (λ i. (sym same_sleeper i, sym r.state i)) waits_there
 
     pub wake_can : CanWait call
     wake_can = may_can call (waits_may w.state sleeper call valid_there waits_there)
 
     pub wake_few : HasFewRanges (registers_of guest t) call
     wake_few =
-        let encoded = waits_are_encoded launch log p t call sleeper.since waits_there.0 r.bounded.begins r.legal waits_there.1 in
-        few_ranges encoded.0 (registers_of guest t)
-        encoded.1.0 call
-        (encoded.1.1 ∙ ap (λ (r : Registers). args_of encoded.0 r encoded.1.0) (sym (ap (λ (g : Guest). registers_of g t) a.guest_is
-        ∙ whole_keeps w.state p (guest_of w p) turns t a.waits.thread a.whole a.waits.there a.waits.waits)))
+        let encoded = waits_are_encoded launch log p t call sleeper.since waits_there.0 waits_there.1 r.bounded.begins r.legal waits_there.3 in
+        few_of_call (registers_of guest t) encoded.1 call encoded.3
+        (few_ranges encoded.0 (registers_of guest t) encoded.2.0 encoded.1
+        (encoded.2.1 ∙ ap (λ (r : Registers). args_of encoded.0 r encoded.2.0) (sym (ap (λ (g : Guest). registers_of g t) a.guest_is
+        ∙ whole_keeps w.state p (guest_of w p) turns t a.waits.thread a.whole a.waits.there a.waits.waits))))
 
     module _ (given : WakeIn) (given_is : given ≡ given_of guest.memory (registers_of guest t) call) (answered : Answer) (kernel : State) (moment : ℕ)
         (moment_is : moment ≡ kernel.clock) (ready : is_ready constants before p t ≡ true)
-        (is_wake : IsWake constants before (waiter p t sleeper.since) call given answered kernel) (live : IsLiveIn w p) where
+        (is_wake : (since : ℕ) (stage : Stage) → WaitsIn before (waiter p t since stage) call
+        → IsWake constants before (waiter p t since stage) call given answered kernel) (live : IsLiveIn w p) where
       ready_there : is_ready launch.constants w.state p t ≡ true
       ready_there = there (λ c S. is_ready c S p t ≡ true) ready
 
       wake_there : IsWake launch.constants w.state sleeper call given answered kernel
-      wake_there = there (λ c S. IsWake c S sleeper call given answered kernel) is_wake
+      wake_there =
+          there (λ c S. IsWake c S sleeper call given answered kernel)
+          (subst (λ (x : Who). IsWake constants before x call given answered kernel) same_sleeper (is_wake sleeper.since waits_there.1 waits_here))
 
       abbrev wake_act : Act
       wake_act = act.Wake call given answered
@@ -430,25 +453,46 @@ module _ (launch : Launch) (all : Bool) (log : List Entry) (before : State) (con
           came = appends_entry p t turns wake_act kernel moment moment_is leaves_wake (λ _. live) answered_wake after last;
         }
 
-        pub woken_runs : (guest' : Guest) → guest' ≡ called_guest guest t call answered → get kernel.statuses p ≡ Some Live
-            → IsWokenOn launch log p t turns guest' after woken.Runs
-        woken_runs guest' is on = (
-          appends_wake,
-          entry_there p t turns wake_act kernel moment moment_is leaves_wake (λ _. live) answered_wake after last (λ h. GoesOn launch h p t guest')
-              (entry_goes launch log p t turns wake_act kernel leaves_wake (λ g. called_guest g t call answered) guest a.guest_is
-              (get-insert-same (turned w p turns).guests p (called_guest (guest_of (turned w p turns) p) t call answered)) guest' is on
-              (wake_runs launch log p t turns call given answered guest kernel a valid_there waits_there given_is ready_there wake_there on)),
-          entry_there p t turns wake_act kernel moment moment_is leaves_wake (λ _. live) answered_wake after last (λ h. KeepsBut launch log h p t)
-              (entry_keeps launch log p t turns wake_act kernel leaves_wake t
-              (wake_stays launch log p t turns call given answered guest kernel a valid_there waits_there given_is ready_there wake_there on)),
-        )
+        -- what holds of the history after the wake
+        after_wake : (P : List Entry → Type 0) → P (log ++ entry_of (head_of kernel.clock p t turns) wake_act ∷ []) → P after
+        after_wake P here = entry_there p t turns wake_act kernel moment moment_is leaves_wake (λ _. live) answered_wake after last P here
 
-        pub woken_ends : (guest' : Guest) → ¬ (get kernel.statuses p ≡ Some Live) → IsWokenOn launch log p t turns guest' after woken.Ends
-        woken_ends guest' dead = (
-          appends_wake,
-          entry_there p t turns wake_act kernel moment moment_is leaves_wake (λ _. live) answered_wake after last (λ h. IsDead launch h p)
-              (entry_dead launch log p t turns wake_act kernel leaves_wake dead),
-        )
+        keeps_wake : get kernel.statuses p ≡ Some Live → KeepsBut launch log after p t
+        keeps_wake on =
+            after_wake (λ h. KeepsBut launch log h p t)
+            (entry_keeps launch log p t turns wake_act kernel leaves_wake t
+            (wake_stays launch log p t turns call given answered guest kernel a valid_there waits_there given_is ready_there wake_there on))
+
+        set_wake : get (acted (turned w p turns) sleeper wake_act).guests p ≡ Some (called_guest (guest_of (turned w p turns) p) t call answered)
+        set_wake = get-insert-same (turned w p turns).guests p (called_guest (guest_of (turned w p turns) p) t call answered)
+
+        module _ (guest' : Guest) (is : guest' ≡ called_guest guest t call answered) where
+          goes_wake : get kernel.statuses p ≡ Some Live → is_parked answered ≡ false → GoesOn launch after p t guest'
+          goes_wake on replies =
+              after_wake (λ h. GoesOn launch h p t guest')
+              (entry_goes launch log p t turns wake_act kernel leaves_wake (λ g. called_guest g t call answered) guest a.guest_is set_wake guest' is on
+              (wake_runs launch log p t turns call given answered guest kernel a valid_there waits_there given_is ready_there wake_there replies on))
+
+          waits_wake : get kernel.statuses p ≡ Some Live → is_parked answered ≡ true → WaitsOn launch after p t guest'
+          waits_wake on parks =
+              let thread = wake_waits launch log p t turns call given answered guest kernel a valid_there waits_there given_is ready_there wake_there parks on in
+              after_wake (λ h. WaitsOn launch h p t guest')
+              (entry_waits launch log p t turns wake_act kernel leaves_wake (λ g. called_guest g t call answered) guest a.guest_is set_wake guest' is on
+              thread.0 thread.1 thread.2)
+
+          woken_by : (lives waits : Bool) → is_parked answered ≡ waits → (IsTrue lives ↔ (get kernel.statuses p ≡ Some Live))
+              → IsWokenOn launch log p t turns guest' after (woken_so lives waits)
+          woken_by false waits parks on = (
+            appends_wake,
+            after_wake (λ h. IsDead launch h p) (entry_dead launch log p t turns wake_act kernel leaves_wake (λ alive. not_true (on.1 alive))),
+          )
+          woken_by true false parks on = (appends_wake, goes_wake (on.0 refl) parks, keeps_wake (on.0 refl))
+          woken_by true true parks on = (appends_wake, waits_wake (on.0 refl) parks, keeps_wake (on.0 refl))
+
+          pub woken_there : (result : Woken) (lives waits : Bool) → result ≡ woken_so lives waits → waits ≡ is_parked answered
+              → (IsTrue lives ↔ (get kernel.statuses p ≡ Some Live)) → IsWokenOn launch log p t turns guest' after result
+          woken_there result lives waits so parks on =
+              subst (IsWokenOn launch log p t turns guest' after) (sym so) (woken_by lives waits (sym parks) on)
 
   -- the thread waits on
   pub woken_not : (p t : ℕ) (turns : List ℕ) (guest : Guest) (after : List Entry) → after ≡ log → IsLiveIn w p → is_ready constants before p t ≡ false

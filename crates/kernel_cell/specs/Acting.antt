@@ -25,7 +25,7 @@ use Rattle.run_types.specs.declared.launch.Launch.{Launch}
 use Rattle.kernel_core.specs.Waiting.{waits_until}
 use Rattle.kernel_model.specs.Outcome.{is_parked}
 use Rattle.kernel_model.specs.State.{thread_of}
-use Rattle.kernel_model.specs.Threads.{child_told, ends_caller, ends_others, makes_thread, next_number}
+use Rattle.kernel_model.specs.Threads.{child_told, ends_caller, ends_others, makes_thread, next_number, IsMoved}
 use Rattle.kernel_model.specs.Waits.{IsParked}
 use Rattle.kernel_model.specs.Wakes.{is_ready, HasThread, MayJump}
 use Rattle.run_model.specs.Ends.{Stalled}
@@ -130,10 +130,11 @@ pub record AddedWake (launch : Launch) (v : Passing) (t : ℕ) (turns : List ℕ
 
 -- ---- what became of threads
 
--- each thread of the process, but for the one with this number, is what it was before, and there is no other
+-- each thread of the process, but for the one with this number, is what it was before, or waits as it did and was given a lock or signalled; and
+-- there is no other
 abbrev pub KeepsBut : Launch → List Entry → List Entry → ℕ → ℕ → Type 0
 KeepsBut launch before after p t =
-    (u : ℕ) → u ≢ t → thread_of (world launch after).state p u ≡ thread_of (world launch before).state p u
+    (u : ℕ) → u ≢ t → IsMoved (thread_of (world launch before).state p u) (thread_of (world launch after).state p u)
 
 -- the process has one thread more, with the number that was the next, and it takes its turns
 pub record HasStarted (launch : Launch) (before after : List Entry) (p u : ℕ) : Type 0 where
@@ -207,6 +208,12 @@ abbrev pub unless_lost : Bool → Acted → Acted
 unless_lost true result = result
 unless_lost false result = acted.Lost
 
+-- what a wake came to, by whether its process is live afterwards, and whether the thread waits on
+abbrev pub woken_so : Bool → Bool → Woken
+woken_so false waits = woken.Ends
+woken_so true false = woken.Runs
+woken_so true true = woken.Parks
+
 abbrev pub IsActed : Launch → Passing → ℕ → List ℕ → Call → Guest → Passing → Acted → Type 0
 IsActed launch v t turns call guest w acted.Runs =
     AddedCall launch v t turns call w × GoesOn launch w.seen v.pid t guest × KeepsBut launch v.seen w.seen v.pid t
@@ -238,6 +245,8 @@ IsForked launch v t turns call guest w (Err not_made.NoMemory) = Looked launch v
 abbrev pub IsWoken : Launch → Passing → ℕ → List ℕ → Guest → Passing → Woken → Type 0
 IsWoken launch v t turns guest w woken.Runs =
     AddedWake launch v t turns w × GoesOn launch w.seen v.pid t guest × KeepsBut launch v.seen w.seen v.pid t
+IsWoken launch v t turns guest w woken.Parks =
+    AddedWake launch v t turns w × WaitsOn launch w.seen v.pid t guest × KeepsBut launch v.seen w.seen v.pid t
 IsWoken launch v t turns guest w woken.Ends = AddedWake launch v t turns w × IsDead launch w.seen v.pid
 IsWoken launch v t turns guest w woken.NotReady = Looked launch v w × IsNotReady launch w.seen v.pid t
 IsWoken launch v t turns guest w woken.Gone = Looked launch v w × IsDead launch w.seen v.pid
@@ -329,6 +338,8 @@ pub record AppendsWake (launch : Launch) (log : List Entry) (p t : ℕ) (turns :
 abbrev pub IsWokenOn : Launch → List Entry → ℕ → ℕ → List ℕ → Guest → List Entry → Woken → Type 0
 IsWokenOn launch log p t turns guest after woken.Runs =
     AppendsWake launch log p t turns after × GoesOn launch after p t guest × KeepsBut launch log after p t
+IsWokenOn launch log p t turns guest after woken.Parks =
+    AppendsWake launch log p t turns after × WaitsOn launch after p t guest × KeepsBut launch log after p t
 IsWokenOn launch log p t turns guest after woken.Ends = AppendsWake launch log p t turns after × IsDead launch after p
 IsWokenOn launch log p t turns guest after woken.NotReady = (after ≡ log) × IsNotReady launch log p t
 IsWokenOn launch log p t turns guest after woken.Gone = (after ≡ log) × IsDead launch log p
@@ -343,6 +354,7 @@ KeepsGuest guest after other = Unit {0}
 -- Where no entry came the guest is as it was, and its turns wait for their entry still; else none waits.
 abbrev pub KeepsTurns : Guest → Guest → List ℕ → List ℕ → Woken → Type 0
 KeepsTurns guest guest' turns turns' woken.Runs = turns' ≡ []
+KeepsTurns guest guest' turns turns' woken.Parks = turns' ≡ []
 KeepsTurns guest guest' turns turns' woken.Ends = turns' ≡ []
 KeepsTurns guest guest' turns turns' other = (guest' ≡ guest) × (turns' ≡ turns)
 

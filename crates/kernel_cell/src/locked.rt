@@ -148,7 +148,7 @@ impl<J: Naming> Locked<J> {
     }
 
     /// The wake of a thread that waits, after these turns of its process. The guest is the process's after them, and gets the answer to
-    /// the call that the thread waited in.
+    /// the call that the thread waited in: a reply, or the words that are written where the thread waits on.
     pub fn wake(
         &mut self,
         passes: &Passes<J>,

@@ -12,7 +12,7 @@ ghost use Rattle.kernel_model.specs.State.{State};
 ghost use Rattle.kernel_model.specs.Step.{IsStep};
 ghost use Rattle.kernel_model.specs.Threads.{child_told};
 ghost use Rattle.guest_process.specs.Children.{IsFork};
-ghost use Rattle.kernel_cell.specs.Acting.{AsksCall, AsksEnd, AsksWake, HasNoChild, act_of, acted_so, call_end, end_of, held_after, status_of, unless_lost, IsActedOn, IsForkedOn, IsIdledOn, IsStoppedOn, IsWokenOn, KeepsGuest, KeepsTurns};
+ghost use Rattle.kernel_cell.specs.Acting.{AsksCall, AsksEnd, AsksWake, HasNoChild, act_of, acted_so, call_end, end_of, held_after, status_of, unless_lost, woken_so, IsActedOn, IsForkedOn, IsIdledOn, IsStoppedOn, IsWokenOn, KeepsGuest, KeepsTurns};
 ghost use Rattle.kernel_cell.specs.Recorded.{IsRecorded};
 
 use crate::results::{Acted, CallEnd, EndBy, Idled, NotMade, Stopped, Woken};
@@ -107,6 +107,17 @@ fn unless_lost(begun: Result<(), AllocError>, acted: Acted) -> Acted
     match begun {
         Ok(()) => acted,
         Err(_) => Acted::Lost,
+    }
+}
+
+// What a wake came to, by whether its process is live afterwards, and whether the thread waits on.
+fn woken(live: bool, waits: bool) -> Woken
+    ensures { result ≡ woken_so live waits }
+{
+    match (live, waits) {
+        (false, _) => Woken::Ends,
+        (true, false) => Woken::Runs,
+        (true, true) => Woken::Parks,
     }
 }
 
@@ -235,8 +246,8 @@ impl<J: Naming> Recorded<J> {
         Ok(child.zip(begun))
     }
 
-    /// The wake of a thread after these turns of its process, whose guest gets the answer to the call that the thread waited in. The
-    /// turns are taken where there is an entry.
+    /// The wake of a thread after these turns of its process, whose guest gets the answer to the call that the thread waited in: a reply,
+    /// or the words that are written where the thread waits on. The turns are taken where there is an entry.
     pub(crate) fn wake(
         &mut self,
         passes: &Passes<J>,
@@ -268,6 +279,7 @@ impl<J: Naming> Recorded<J> {
             return Woken::NotReady;
         };
         guest.answer_woken(tid, &call, &answer);
+        let waits = is_parked(&answer);
         let head = EntryHead {
             moment: self.kernel.moment(),
             pid,
@@ -277,11 +289,7 @@ impl<J: Naming> Recorded<J> {
         self.keeper
             .append_call(passes, &head, &call, Some(given), &answer);
         self.kept.take_call(head, call, Some(given), answer);
-        if self.kernel.live(pid) {
-            Woken::Runs
-        } else {
-            Woken::Ends
-        }
+        woken(self.kernel.live(pid), waits)
     }
 
     /// The end of a thread's process from outside, after these turns.

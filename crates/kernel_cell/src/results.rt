@@ -54,9 +54,11 @@ pub enum CallEnd {
 pub enum Woken {
     /// It is an entry, and the thread goes on, with the answer to its call.
     Runs,
+    /// It is an entry, and the thread waits on: it has left its condition variable, and waits for the lock.
+    Parks,
     /// It is an entry, by which the thread's process ended.
     Ends,
-    /// The thread waits on, and no entry was added.
+    /// The thread isn't ready and waits on, and no entry was added.
     NotReady,
     /// The process had ended before, and no entry was added.
     Gone,
@@ -83,8 +85,8 @@ pub struct Times {
     pub moment: u64,
     /// `None` where the thread doesn't wait, and where there is no such moment.
     pub until: Option<u64>,
-    /// Those that waited on channels which have changed, and those of processes that have ended. Who takes them is to have them looked
-    /// at, since nobody else gets them.
+    /// Those that waited on channels which have changed, those that were given a lock or signalled at a condition variable, and those of
+    /// processes that have ended. Who takes them is to have them looked at, since nobody else gets them.
     pub wakes: Wakes,
     /// Whether the thread's process is live.
     pub live: bool,

@@ -1,5 +1,5 @@
 -- What a call does, by the table of its process.
-use Rattle.std.proofs.Common.{◌≡◌, true, false, [], Option, None, Some, inl, inr, refl, sym, ap, subst, ◌∙◌}
+use Rattle.std.proofs.Common.{◌≡◌, ◌+◌, true, false, [], Option, None, Some, inl, inr, refl, sym, ap, subst, ◌∙◌}
 use Rattle.std.specs.FinMap.{get}
 use Rattle.abi_base.specs.declared.errno.Errno.TheVariants.{Nomem}
 use Rattle.abi_types.specs.declared.reply.Answer.{Answer}
@@ -66,7 +66,7 @@ done_is_step constants S U who call reply answered left =
     inl (
       is,
       left ∙ ap (λ (o : Outcome). release (put_all o.updates (tick S))) (sym same)
-          ∙ ap release (sym (replies_only (outcome constants S who call).answer who (waiting constants call who.since)
+          ∙ ap release (sym (replies_only (outcome constants S who call).answer who (waiting constants call who (S.clock + 1000))
           (put_all (outcome constants S who call).updates (tick S)) (ap is_parked (sym is)))),
     )
 

@@ -458,7 +458,7 @@ no_constants = record { key = []; epoch = 0 }
 pub socket_nearly : (S : State) (p : ℕ) (table : Table) (v : SocketCall) → get S.tables p ≡ Some table → IsNearlyValid S
     → IsNearlyValid (put_all (socket_on S p table (fd_of_socket v) (call_of_socket v)).updates S)
 socket_nearly S p table v there nearly =
-    let who : Who = record { pid = p; tid = 0; since = 0 } in
+    let who : Who = record { pid = p; tid = 0; since = 0; stage = None } in
     subst (λ (x : Outcome). IsNearlyValid (put_all x.updates S)) (socket_does no_constants S who table v)
     ((proper (call_of_socket v)).valid no_constants S who table there nearly)
 

@@ -154,7 +154,7 @@ module _ (constants : Constants) (S : State) (p : ℕ) (table : Table) (fd : ℕ
 
   pub entries_valid : get S.tables p ≡ Some table → IsNearlyValid S → IsNearlyValid (put_all (entry_outcome constants S p table fd other called).updates S)
   entries_valid has v =
-      let who : Who = record { pid = p; tid = 0; since = 0 } in
+      let who : Who = record { pid = p; tid = 0; since = 0; stage = None } in
       subst (λ (o : Outcome). IsNearlyValid (put_all o.updates S)) (entries_does constants S who table called fd other is)
       ((proper called).valid constants S who table has v)
 

@@ -6,11 +6,12 @@
 --     change_replaces, change_takes_memory      a number that is replaced is there;  memory may run out for a new number
 --     all_named      where a call isn't refused each descriptor that it names is there
 --     on_err_both, on_err_all      what follows where there is an error
-use Rattle.std.proofs.Common.{◌≡◌, ℕ, Bool, true, false, cond, List, [], Option, None, Some, Result, Ok, Err, OnErr, refl, sym, ap, subst}
+use Rattle.std.proofs.Common.{◌≡◌, ℕ, Bool, true, false, cond, List, [], Option, None, Some, Result, Ok, Err, OnErr, refl, sym, ap, subst, ◌∷◌, ◌∙◌}
 use Rattle.abi_base.specs.declared.errno.Errno.{Errno}
 use Rattle.abi_base.specs.declared.errno.Errno.TheVariants.{Badf, Nosys, Success}
 use Rattle.abi_structures.specs.declared.events.Subscription.{Subscription}
 use Rattle.abi_structures.specs.declared.structures.ThreadAttr.{ThreadAttr}
+use Rattle.std.specs.FinMap.{get}
 use Rattle.abi_types.specs.Families.{HasFile, IsOf, answer_of, call_of_change, call_of_entry, call_of_file, call_of_offset, call_of_open, call_of_socket, fd_of_file, fd_of_offset, fds_of_entry, is_anonymous, is_unbuilt, zeros_of}
 use Rattle.abi_types.specs.declared.call.Call.{Call}
 use Rattle.abi_types.specs.declared.call.Call.TheVariants as call
@@ -34,19 +35,21 @@ use Rattle.fd_calls.specs.Calls.{offset_fd}
 use Rattle.kernel_model.specs.Calls.{meaning_of, named, refusal, takes_memory}
 use Rattle.kernel_model.specs.Families.EntryCalls.{entry_fds}
 use Rattle.kernel_model.specs.Families.FileCalls.{file_fd}
+use Rattle.kernel_model.specs.Families.LockCalls.{waited_outcome}
 use Rattle.kernel_model.specs.Families.MemoryCalls.{map_zeros, placed}
+use Rattle.kernel_model.specs.Families.Polls.{begins_with_lock, events_now, poll_by}
 use Rattle.kernel_model.specs.Laws.{HasAll}
 use Rattle.kernel_model.specs.Meaning.{Meaning}
 use Rattle.kernel_model.specs.Need.{some_absent}
-use Rattle.kernel_model.specs.Outcome.{IsSuccess, Outcome, replies}
+use Rattle.kernel_model.specs.Outcome.{Outcome, replies}
 use Rattle.kernel_model.specs.Reply.{refused}
 use Rattle.kernel_model.specs.State.{State, Table}
 use Rattle.kernel_model.specs.View.{View, whole}
 use Rattle.kernel_model.proofs.Lacks.{all_present}
-use Rattle.kernel_model.proofs.Tests.{none_is_no, same_some}
-use Rattle.kernel_model.proofs.Polls.{poll_holds}
+use Rattle.kernel_model.proofs.Tests.{none_is_no, not_true, same_some}
+use Rattle.kernel_model.proofs.Polls.{told_holds}
 use Rattle.kernel_parts.specs.Changes.{HasReplaced, IsDup, change_outcome}
-use Rattle.poll_set.specs.Polls.{poll_outcome, sight}
+use Rattle.poll_set.specs.Polls.{first_of, poll_outcome, sight}
 use Rattle.poll_set.proofs.PollReads.{poll_reads, poll_takes_memory}
 use Rattle.kernel_core.proofs.Changes.{put_is}
 
@@ -128,6 +131,14 @@ module _ (c : Call) (f : Family) (of : IsOf c f) where
   pub thread_exit_is : (lock word scope : ℕ) → f ≡ family.ThreadExit lock word scope → c ≡ call.ThreadExit lock word scope
   unfolding IsOf
   thread_exit_is lock word scope is = subst (IsOf c) is of
+
+  pub unlock_is : (lock word scope : ℕ) → f ≡ family.Unlock lock word scope → c ≡ call.LockUnlock lock word scope
+  unfolding IsOf
+  unlock_is lock word scope is = subst (IsOf c) is of
+
+  pub signal_is : (condvar word scope n : ℕ) → f ≡ family.Signal condvar word scope n → c ≡ call.CondvarSignal condvar word scope n
+  unfolding IsOf
+  signal_is condvar word scope n is = subst (IsOf c) is of
 
   pub answered_is : (errno : Errno) → f ≡ family.Answered errno → answer_of c ≡ Some errno
   unfolding IsOf
@@ -213,9 +224,7 @@ answered_does other errno constants v who table is = absurd (none_is_no errno is
 
 pub unbuilt_does : (c : Call) (constants : Constants) (v : View) (who : Who) (table : Table) → is_unbuilt c ≡ true
     → (meaning_of c).effect constants v who table ≡ replies (refused Nosys)
-unbuilt_does (call.CondvarSignal condvar word scope n) constants v who table is = refl
 unbuilt_does (call.FdCreate1 kind) constants v who table is = refl
-unbuilt_does (call.LockUnlock lock word scope) constants v who table is = refl
 unbuilt_does other constants v who table is = absurd (cc)
 
 -- ---- polls
@@ -224,20 +233,34 @@ unbuilt_does other constants v who table is = absurd (cc)
 abbrev pub poll_in : Constants → State → Who → Table → List Subscription → Outcome
 poll_in constants S who table subscriptions = poll_outcome constants S.opens S.chans S.statuses S.clock table who.since subscriptions
 
-pub poll_does : (constants : Constants) (S : State) (who : Who) (table : Table) (subscriptions : List Subscription)
+-- one that doesn't begin with a lock or a condition variable
+pub poll_does : (constants : Constants) (S : State) (who : Who) (table : Table) (subscriptions : List Subscription) → begins_with_lock subscriptions ≡ false
     → (meaning_of (call.Poll subscriptions)).effect constants (whole S) who table ≡ poll_in constants S who table subscriptions
-poll_does constants S who table subscriptions = poll_reads S constants who table subscriptions
+poll_does constants S who table subscriptions is = poll_reads S constants who table subscriptions is
 
 pub poll_sets_nothing : (constants : Constants) (S : State) (who : Who) (table : Table) (subscriptions : List Subscription)
     → (poll_in constants S who table subscriptions).updates ≡ []
 poll_sets_nothing constants S who table subscriptions =
-    poll_holds (λ o. o.updates ≡ []) refl (λ event more. refl) refl subscriptions constants (sight S.opens S.chans S.statuses S.clock)
-    (record { pid = 0; tid = 0; since = who.since }) table
+    told_holds (λ o. o.updates ≡ []) (events_now constants (sight S.opens S.chans S.statuses S.clock) who.since table subscriptions) (λ event more. refl) refl
 
-pub poll_may_lack : (constants : Constants) (S : State) (who : Who) (table : Table) (subscriptions : List Subscription)
-    → IsSuccess (poll_in constants S who table subscriptions).answer → takes_memory (call.Poll subscriptions) ≡ true
-poll_may_lack constants S who table subscriptions done =
-    poll_takes_memory subscriptions constants (sight S.opens S.chans S.statuses S.clock) (record { pid = 0; tid = 0; since = who.since }) table done
+pub poll_may_lack : (subscriptions : List Subscription) → takes_memory (call.Poll subscriptions) ≡ true
+poll_may_lack subscriptions = poll_takes_memory subscriptions
+
+-- one that does, by its first subscription
+lock_poll_by : (lock : Bool) (first : Subscription) (rest : List Subscription) (constants : Constants) (S : State) (who : Who) (table : Table) → lock ≡ true
+    → (poll_by lock (first ∷ rest)).effect constants (whole S) who table
+    ≡ waited_outcome first.userdata first.what who.pid who.tid who.stage (get S.processes who.pid)
+lock_poll_by true first rest constants S who table is = refl
+lock_poll_by false first rest constants S who table is = absurd (not_true is)
+
+pub lock_poll_does : (constants : Constants) (S : State) (who : Who) (table : Table) (subscriptions : List Subscription) (first : Subscription)
+    → begins_with_lock subscriptions ≡ true → Some first ≡ first_of subscriptions
+    → (meaning_of (call.Poll subscriptions)).effect constants (whole S) who table
+    ≡ waited_outcome first.userdata first.what who.pid who.tid who.stage (get S.processes who.pid)
+lock_poll_does constants S who table [] first is found = absurd (none_is_no first (sym found))
+lock_poll_does constants S who table (one ∷ rest) first is found =
+    lock_poll_by (begins_with_lock (one ∷ rest)) one rest constants S who table is
+    ∙ ap (λ (it : Subscription). waited_outcome it.userdata it.what who.pid who.tid who.stage (get S.processes who.pid)) (sym (same_some first one found))
 
 -- ---- refusals
 

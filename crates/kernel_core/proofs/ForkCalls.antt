@@ -198,6 +198,7 @@ module _ (S : State) (left : ℕ) (plan : NewChild) (is : IsChildOf S left plan)
     own = own;
     has_own = is.has_own;
     bears = can.bears;
+    there = can.some;
     can_number = fit.1;
     child_is = is.planned.child_is;
     object_is = is.planned.object_is;

@@ -21,3 +21,4 @@ pub mod EndCalls
 pub mod ForkCalls
 pub mod ExecCalls
 pub mod Raising
+pub mod Asking

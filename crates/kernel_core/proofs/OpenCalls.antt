@@ -278,6 +278,6 @@ open_does constants S who table lookup path oflags stat =
 pub open_valid : (constants : Constants) (S : State) (p : ℕ) (table : Table) (lookup : Lookup) (path : List ℕ) (oflags : ℕ) (stat : FdStat)
     → get S.tables p ≡ Some table → IsNearlyValid S → IsNearlyValid (put_all (open_outcome (real_time constants S.clock) S p table lookup path oflags stat).updates S)
 open_valid constants S p table lookup path oflags stat has v =
-    let who : Who = record { pid = p; tid = 0; since = 0 } in
+    let who : Who = record { pid = p; tid = 0; since = 0; stage = None } in
     subst (λ (x : Outcome). IsNearlyValid (put_all x.updates S)) (open_does constants S who table lookup path oflags stat)
     ((file_open_is_proper lookup path oflags stat).valid constants S who table has v)

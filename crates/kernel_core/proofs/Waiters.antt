@@ -5,7 +5,7 @@
 --     jump_is, stall_is, stalled_where      where time may jump, and where nothing can happen any more
 --     least_is_one      there is one least deadline
 use Rattle.std.proofs.Common.{◌≡◌, ◌≢◌, ◌⊎◌, ℕ, ◌≤◌, Bool, true, false, inl, inr, Option, None, Some, IsSome, is_some, refl, sym, ap, subst, ◌∙◌, arith}
-use Rattle.std.specs.Prelude.{⊤, is_none}
+use Rattle.std.specs.Prelude.{⊤, is_none, if◌then◌else◌}
 use Rattle.std.specs.Ordering.{nat_cmp}
 use Rattle.std.specs.Option.{option_map}
 use Rattle.std.specs.FinMap.{FinMap, get, get-empty}
@@ -14,20 +14,23 @@ use Rattle.abi_types.specs.declared.constants.Constants.{Constants}
 use Rattle.abi_types.specs.declared.open_kind.OpenKind.{OpenKind}
 use Rattle.abi_types.specs.declared.status.Status.{Status}
 use Rattle.abi_types.specs.declared.status.Status.TheVariants.{Live, Exit, Killed}
+use Rattle.abi_types.specs.declared.thread.Stage.{Stage}
 use Rattle.abi_types.specs.declared.thread.Thread.{Thread}
 use Rattle.abi_types.specs.declared.thread.Thread.TheVariants.{Runnable, Waits}
+use Rattle.abi_types.specs.declared.who.Who.{Who}
+use Rattle.kernel_model.specs.Calls.{meaning_of}
 use Rattle.kernel_model.specs.Channels.{Channel}
-use Rattle.kernel_model.specs.Deadlines.{least_deadline, soon, until_of}
+use Rattle.kernel_model.specs.Deadlines.{is_due, least_deadline, soon, until_of}
 use Rattle.kernel_model.specs.State.{State, ProcessState, Table, Threads, thread_in, thread_of}
 use Rattle.kernel_model.specs.Valid.{IsValid}
 use Rattle.kernel_model.specs.WaitLaws.{IsLeastDeadline, WaitsUntil}
 use Rattle.kernel_model.specs.Waits.{IsParked}
-use Rattle.kernel_model.specs.Wakes.{is_ready, is_ready_as, AllParked, HasThread, IsStalled, MayJump, NoneReady}
+use Rattle.kernel_model.specs.Wakes.{goes_on_at, is_done_now, is_ready, is_ready_as, AllParked, HasThread, IsStalled, MayJump, NoneReady}
 use Rattle.kernel_model.proofs.Deadlines.{soon_is, soon_is_soon, soon_kept}
 use Rattle.kernel_model.proofs.Readiness.{least_is_least}
 use Rattle.kernel_model.proofs.Tests.{none_is_no, not_true}
 use Rattle.kernel_parts.specs.Activity.{activity_at, activity_by, activity_of, by_over, IsActivity, IsNotEarlier, WaitsLater}
-use Rattle.kernel_parts.specs.Waiting.{is_over}
+use Rattle.kernel_parts.specs.Waiting.{goes_on, is_over}
 use Rattle.kernel_parts.specs.declared.activity.Activity.{Activity}
 use Rattle.kernel_parts.specs.declared.activity.Activity.TheVariants.{NoThread, Busy, Waiting}
 use Rattle.kernel_parts.proofs.Polling.{over_is}
@@ -35,15 +38,24 @@ use Rattle.kernel_core.specs.Waiting.{ThreadsDo}
 
 -- ---- a thread that is ready
 
-pub ready_by : (constants : Constants) (S : State) (p t : ℕ) (call : Call) (since : ℕ) (until : Option ℕ) → thread_of S p t ≡ Some (Waits call since until)
-    → is_over constants S.opens S.chans S.statuses S.clock (get S.tables p) since call ≡ is_ready constants S p t
-ready_by constants S p t call since until there =
-    over_is constants S (record { pid = p; tid = t; since = since }) call ∙ ap (is_ready_as constants S p t) (sym there)
+pub ready_by : (constants : Constants) (S : State) (p t : ℕ) (call : Call) (since : ℕ) (until : Option ℕ) (stage : Stage)
+    → thread_of S p t ≡ Some (Waits call since until stage)
+    → goes_on constants S.opens S.chans S.statuses S.clock (get S.tables p) call since until stage ≡ is_ready constants S p t
+ready_by constants S p t call since until stage there =
+    let who : Who = record { pid = p; tid = t; since = since; stage = Some stage } in
+    let over = is_over constants S.opens S.chans S.statuses S.clock (get S.tables p) since call in
+    elim (meaning_of call).by_stage as (λ b. (meaning_of call).by_stage ≡ b
+    → (if b then goes_on_at stage (is_due S.clock until) else over) ≡ (if b then goes_on_at stage (is_due S.clock until) else is_done_now constants S who call)) [
+      | true ↦ λ e. refl
+      | false ↦ λ e. over_is constants S who call e
+    ] refl
+    ∙ ap (is_ready_as constants S p t) (sym there)
 
 -- by what was looked at
 pub looked_at : {a constants : Constants} {k opens : FinMap nat_cmp OpenKind} {x chans : FinMap nat_cmp Channel} {u statuses : FinMap nat_cmp Status} {n now : ℕ}
-    → a ≡ constants → k ≡ opens → x ≡ chans → u ≡ statuses → n ≡ now → (table : Option Table) (since : ℕ) (call : Call) → is_over a k x u n table since call ≡ is_over constants opens chans statuses now table since call
-looked_at one two three four five table since call = λ i. is_over (one i) (two i) (three i) (four i) (five i) table since call
+    → a ≡ constants → k ≡ opens → x ≡ chans → u ≡ statuses → n ≡ now → (table : Option Table) (call : Call) (since : ℕ) (until : Option ℕ) (stage : Stage)
+    → goes_on a k x u n table call since until stage ≡ goes_on constants opens chans statuses now table call since until stage
+looked_at one two three four five table call since until stage = λ i. goes_on (one i) (two i) (three i) (four i) (five i) table call since until stage
 
 pub active_at : {a constants : Constants} {k opens : FinMap nat_cmp OpenKind} {x chans : FinMap nat_cmp Channel} {u statuses : FinMap nat_cmp Status} {n now : ℕ}
     → a ≡ constants → k ≡ opens → x ≡ chans → u ≡ statuses → n ≡ now → (table : Option Table) (threads : Threads) (result : Activity) → IsActivity (activity_at a k x u n table threads) (λ _. ⊤) result
@@ -89,7 +101,7 @@ module _ (constants : Constants) (S : State) where
   none_by : (table : Option _) (o : Option Thread) → activity_by constants S.opens S.chans S.statuses S.clock table o ≡ NoThread → o ≡ None
   none_by table None is = refl
   none_by table (Some Runnable) is = absurd (cc)
-  none_by table (Some (Waits call since until)) is = absurd (over_none (is_over constants S.opens S.chans S.statuses S.clock table since call) until is)
+  none_by table (Some (Waits call since until stage)) is = absurd (over_none (goes_on constants S.opens S.chans S.statuses S.clock table call since until stage) until is)
 
   over_busy : (b : Bool) (until : Option ℕ) → by_over b until ≡ Busy → b ≡ true
   over_busy true until e = refl
@@ -99,8 +111,8 @@ module _ (constants : Constants) (S : State) where
       → (thread_of S p t ≡ Some Runnable) ⊎ (is_ready constants S p t ≡ true)
   busy_by p t None there is = absurd (cc)
   busy_by p t (Some Runnable) there is = inl there
-  busy_by p t (Some (Waits call since until)) there is =
-      inr (sym (ready_by constants S p t call since until there) ∙ over_busy (is_over constants S.opens S.chans S.statuses S.clock (get S.tables p) since call) until is)
+  busy_by p t (Some (Waits call since until stage)) there is =
+      inr (sym (ready_by constants S p t call since until stage there) ∙ over_busy (goes_on constants S.opens S.chans S.statuses S.clock (get S.tables p) call since until stage) until is)
 
   -- one that waits until a moment
   over_waits : (b : Bool) (until moment : Option ℕ) → by_over b until ≡ Waiting moment → soon until ≡ moment
@@ -111,7 +123,8 @@ module _ (constants : Constants) (S : State) where
       → (thread : Thread) × (o ≡ Some thread) × (until_of thread ≡ until)
   waits_by p t None until is = absurd (cc)
   waits_by p t (Some Runnable) until is = absurd (cc)
-  waits_by p t (Some (Waits call since had)) until is = (Waits call since had, refl, over_waits (is_over constants S.opens S.chans S.statuses S.clock (get S.tables p) since call) had until is)
+  waits_by p t (Some (Waits call since had stage)) until is =
+      (Waits call since had stage, refl, over_waits (goes_on constants S.opens S.chans S.statuses S.clock (get S.tables p) call since had stage) had until is)
 
   -- and none before it
   over_later : (b : Bool) (had until : Option ℕ) → WaitsLater until (by_over b had) → (b ≡ false) × IsNotEarlier until (soon had)
@@ -121,9 +134,9 @@ module _ (constants : Constants) (S : State) where
   later_by : (p t : ℕ) (thread : Thread) (until : Option ℕ) → thread_of S p t ≡ Some thread → WaitsLater until (activity_of constants S.opens S.chans S.statuses S.clock (get S.tables p) thread)
       → IsParked thread × (is_ready constants S p t ≡ false) × IsNotEarlier until (until_of thread)
   later_by p t Runnable until there later = absurd later
-  later_by p t (Waits call since had) until there later =
-      let waits = over_later (is_over constants S.opens S.chans S.statuses S.clock (get S.tables p) since call) had until later in
-      (tt, sym (ready_by constants S p t call since had there) ∙ waits.0, waits.1)
+  later_by p t (Waits call since had stage) until there later =
+      let waits = over_later (goes_on constants S.opens S.chans S.statuses S.clock (get S.tables p) call since had stage) had until later in
+      (tt, sym (ready_by constants S p t call since had stage there) ∙ waits.0, waits.1)
 
   -- ---- all of them
 
@@ -155,12 +168,12 @@ module _ (constants : Constants) (S : State) where
 
   -- a thread that waits until a moment, by its deadline
   deadline_by : (p t until : ℕ) → WaitsUntil S p t until → (thread : Thread) × HasThread S p t thread × (until_of thread ≡ Some until)
-  deadline_by p t until waits = (Waits waits.0 waits.1 (Some until), waits.2, soon_kept until waits.3)
+  deadline_by p t until waits = (Waits waits.0 waits.1 (Some until) waits.2, waits.3, soon_kept until waits.4)
 
   waits_until : (p t until : ℕ) (thread : Thread) → HasThread S p t thread → until_of thread ≡ Some until → WaitsUntil S p t until
   waits_until p t until Runnable there is = absurd (none_is_no until is)
-  waits_until p t until (Waits call since had) there is =
-      (call, since, there ∙ ap (λ o. Some (Waits call since o)) (soon_is had until is), soon_is_soon had until is)
+  waits_until p t until (Waits call since had stage) there is =
+      (call, since, stage, there ∙ ap (λ o. Some (Waits call since o stage)) (soon_is had until is), soon_is_soon had until is)
 
   not_earlier : (until : Option ℕ) → IsActivity does All (Waiting until) → (p t other : ℕ) → WaitsUntil S p t other → IsNotEarlier until (Some other)
   not_earlier until is p t other waits =

@@ -1,7 +1,7 @@
 //! Which part of the kernel does a call.
-ghost use Rattle.std.specs.Prelude.{◌≡◌, ◌+◌, ◌<◌, ◌^◌, true, IsSome, IfOk, OnErr};
+ghost use Rattle.std.specs.Prelude.{◌≡◌, ◌+◌, ◌<◌, ◌^◌, true, false, IsSome, IfOk, OnErr};
 ghost use Rattle.std.specs.FinMap as map;
-ghost use Rattle.kernel_model.specs.Calls.{takes_memory};
+ghost use Rattle.kernel_model.specs.Calls.{meaning_of, takes_memory};
 ghost use Rattle.kernel_model.specs.Outcome.{IsSuccess};
 ghost use Rattle.kernel_model.specs.Release.{release};
 ghost use Rattle.kernel_model.specs.State.{put_all};
@@ -16,7 +16,7 @@ use right_rules::{refusal, refused, success};
 use std::alloc::AllocError;
 
 impl Kernel {
-    // Does a call, but for the clock. `Err` comes only of a call that takes memory and would else succeed, and changes nothing.
+    // Does a call, but for the clock, that is no poll of a lock or a condition variable. `Err` comes only of a call that takes memory and would else succeed, and changes nothing.
     pub(crate) fn dispatch(
         &mut self,
         constants: &Constants,
@@ -24,6 +24,7 @@ impl Kernel {
         call: &Call,
     ) -> Result<Answer, AllocError>
         requires there { IsSome (map.get self.old.statuses who.now.pid) }
+        requires events { (meaning_of call.now).by_stage ≡ false }
         requires early { self.old.clock + constants.now.epoch < 2 ^ 64 }
         ensures ok { IfOk result (λ given. (given ≡ (outcome_by constants.now (whole self.old) who.now call.now).answer)
             × (self.new ≡ release (put_all (outcome_by constants.now (whole self.old) who.now call.now).updates self.old))) }
@@ -59,6 +60,8 @@ impl Kernel {
                 let around = self.around(constants);
                 poll(self.alloc, around, table, who.since, subscriptions)
             }
+            Family::Unlock { lock, word, .. } => Ok(self.lock_unlock(who, lock, word)),
+            Family::Signal { condvar, n, .. } => Ok(self.condvar_signal(who, condvar, n)),
             Family::ClockResolution { .. } => Ok(Answer::Reply(success(CLOCK_RESOLUTION, 0))),
             Family::ClockTime { clock, .. } => {
                 Ok(Answer::Reply(self.clock_time(constants, clock)))

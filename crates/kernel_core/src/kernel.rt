@@ -22,6 +22,7 @@ ghost use Rattle.kernel_model.specs.State.{State, put_all, Table, Part, has_part
 ghost use Rattle.kernel_model.specs.Step.{failed, outside, IsStep, IsUntouched, end_unreleased, end_state, step_answer};
 ghost use Rattle.kernel_model.specs.Valid.{IsValid};
 
+use crate::locks::lock_of;
 use abi_types::{
     Answer, Call, Constants, Denial, Descriptor, Errno, Needed, Pid, Reply, Status, Thread, Tid,
     TryClone, Who,
@@ -128,6 +129,9 @@ impl Kernel {
         ensures step { IsStep constants.now self.old who.now call.now result self.new }
         ensures valid { IsValid self.old }
     {
+        if let Some(first) = lock_of(call) {
+            return self.lock_poll(constants, who, call, first);
+        }
         self.clock += STEP_TIME;
         match self.dispatch(constants, who, call) {
             Ok(Answer::Reply(reply)) => Answer::Reply(reply),
@@ -164,7 +168,13 @@ impl Kernel {
         ensures refused { (reply : Reply) → result ≡ Answer.Reply reply → reply.errno ≢ Errno.Success → self.new ≡ failed self.old (caller self.old pid tid) }
     {
         let since = self.clock + STEP_TIME;
-        self.run(constants, &Who { pid, tid, since }, call)
+        let who = Who {
+            pid,
+            tid,
+            since,
+            stage: None,
+        };
+        self.run(constants, &who, call)
     }
 
     /// Whether a proc_fork of this thread, whose process has so many turns left, would make a child, unless memory ran out.

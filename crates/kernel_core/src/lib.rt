@@ -14,6 +14,7 @@ mod entries;
 mod files;
 mod forks;
 mod kernel;
+mod locks;
 mod offset_calls;
 mod opening;
 mod programs;

@@ -2,9 +2,8 @@
 ghost use Rattle.std.specs.Prelude.{◌≡◌, IsSome, IfOk, OnErr};
 ghost use Rattle.std.specs.FinMap as map;
 ghost use Rattle.abi_types.specs.declared.reply.Answer.TheVariants as answer;
-ghost use Rattle.kernel_core.specs.Threads.{is_last_in};
-ghost use Rattle.kernel_model.specs.Families.LockWords.{unlocked};
-ghost use Rattle.kernel_model.specs.Families.ProcessCalls.{left_updates, left_with, made_in};
+ghost use Rattle.kernel_core.specs.Threads.{is_last_in, IsReleasedBy};
+ghost use Rattle.kernel_model.specs.Families.ProcessCalls.{left_in, left_updates, made_in};
 ghost use Rattle.kernel_model.specs.Outcome.{IsSuccess};
 ghost use Rattle.kernel_model.specs.Release.{release};
 ghost use Rattle.kernel_model.specs.State.{put_all};
@@ -12,7 +11,8 @@ ghost use Rattle.kernel_model.specs.Valid.{IsValid};
 
 use crate::kernel::Kernel;
 use abi_types::{Answer, Errno, Pid, Reply, Status, Tid, Who, WordWrite, WordWrites};
-use kernel_parts::unlocked;
+use guest_locks::Told;
+use kernel_parts::look_again;
 use right_rules::{refused, success};
 use std::alloc::AllocError;
 
@@ -52,16 +52,28 @@ impl Kernel {
         }
     }
 
+    // Lets go of the lock at this address, whose word is this, as far as the thread may.
+    fn release_lock(&mut self, who: &Who, lock: u64, word: u32) -> Option<u32>
+        requires there { IsSome (map.get self.old.statuses who.now.pid) }
+        ensures { IsReleasedBy who.now.pid who.now.tid lock word self.old result self.new }
+    {
+        let mut told = Told::new();
+        let own = self.processes.get_mut(u64::from(who.pid.0));
+        let left = own.release_lock(who.tid, lock, word, &mut told);
+        look_again(&mut self.channels, who.pid, &told);
+        left
+    }
+
     // Lets go of the lock at this address, whose word is this, and ends the caller. Where it may not let go it goes on.
     pub(crate) fn thread_exit(&mut self, who: &Who, lock: u64, word: u32) -> Reply
         requires there { IsSome (map.get self.old.statuses who.now.pid) }
         requires valid { IsValid self.old }
         ensures reply { answer.Reply result
-            ≡ (left_with who.now.pid who.now.tid (map.get self.old.processes who.now.pid) lock (unlocked who.now.tid word)).answer }
+            ≡ (left_in who.now.pid who.now.tid lock word (map.get self.old.processes who.now.pid)).answer }
         ensures state { self.new
-            ≡ release (put_all (left_with who.now.pid who.now.tid (map.get self.old.processes who.now.pid) lock (unlocked who.now.tid word)).updates self.old) }
+            ≡ release (put_all (left_in who.now.pid who.now.tid lock word (map.get self.old.processes who.now.pid)).updates self.old) }
     {
-        let Some(left) = unlocked(who.tid, word) else {
+        let Some(left) = self.release_lock(who, lock, word) else {
             return refused(Errno::Perm);
         };
         self.end_thread(who.pid, who.tid);

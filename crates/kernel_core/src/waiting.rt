@@ -7,19 +7,33 @@ ghost use Rattle.kernel_model.specs.State.{Part, Agree, thread_of};
 ghost use Rattle.kernel_model.specs.Step.{tick, IsUntouched};
 ghost use Rattle.kernel_model.specs.Valid.{IsValid};
 ghost use Rattle.kernel_model.specs.Waits.{may_wait, resumed, waiting, with_thread, WaitsIn};
-ghost use Rattle.kernel_model.specs.Wakes.{is_ready, IsStalled, IsWake, MayJump};
+ghost use Rattle.kernel_model.specs.Wakes.{is_ready, woken, IsStalled, IsWake, MayJump};
 ghost use Rattle.kernel_parts.specs.Waiting.{kept_in};
 
 use crate::kernel::{Kernel, STEP_TIME};
-use abi_types::{Answer, Call, Constants, Errno, Pid, Reply, Thread, Tid, WakeIn, Who};
+use abi_types::{
+    Answer, Call, Constants, Errno, Pid, Reply, Stage, Thread, Tid, TryClone, WakeIn, Who,
+};
 use channel_calls::ThreadOf;
-use kernel_parts::{Activity, deadline_of, is_over, next_number, note_wait};
+use guest_locks::set_word;
+use kernel_parts::{Activity, goes_on, next_number, note_wait};
 use poll_set::Surroundings;
 use right_rules::refused;
 use std::alloc::AllocError;
 
 impl Kernel {
-    // Makes the thread wait in a call that it made. `Err` changes nothing.
+    // Makes the thread wait in a call that it made. Takes no memory.
+    pub(crate) fn begin_wait(&mut self, constants: &Constants, who: &Who, kept: Call)
+        requires there { IsSome (thread_of self.old who.now.pid who.now.tid) }
+        requires may { may_wait kept ≡ true }
+        ensures { self.new ≡ with_thread self.old who.now.pid who.now.tid (waiting constants.now kept who.now self.old.clock) }
+    {
+        let now = self.clock;
+        let own = self.processes.get_mut(u64::from(who.pid.0));
+        own.park(constants, who, now, kept);
+    }
+
+    // The same in a copy of the call, and its thread is noted wherever something may come that it waits for. `Err` changes nothing.
     pub(crate) fn park(
         &mut self,
         constants: &Constants,
@@ -28,12 +42,11 @@ impl Kernel {
     ) -> Result<(), AllocError>
         requires there { IsSome (thread_of self.old who.now.pid who.now.tid) }
         requires may { may_wait call.now ≡ true }
-        ensures ok { OnOk result (self.new ≡ with_thread self.old who.now.pid who.now.tid (waiting constants.now call.now who.now.since)) }
+        ensures ok { OnOk result (self.new ≡ with_thread self.old who.now.pid who.now.tid (waiting constants.now call.now who.now self.old.clock)) }
         ensures err { OnErr result (self.new ≡ self.old) }
     {
-        let until = deadline_of(constants, call, who.since);
-        let own = self.processes.get_mut(u64::from(who.pid.0));
-        own.park(who.tid, call, who.since, until)?;
+        let kept = call.copy()?;
+        self.begin_wait(constants, who, kept);
         self.note(who.pid, who.tid);
         Ok(())
     }
@@ -77,9 +90,9 @@ impl Kernel {
         }
     }
 
-    // Lets a thread run that waits, and gives back the call that it waited in, and when that was made. `None` exactly where the
-    // thread doesn't wait; then nothing changes.
-    fn let_run(&mut self, pid: Pid, tid: Tid) -> Option<(Call, u64)>
+    // Lets a thread run that waits, and gives back the call that it waited in, when that was made, and how far its wait had come. `None`
+    // exactly where the thread doesn't wait; then nothing changes.
+    fn let_run(&mut self, pid: Pid, tid: Tid) -> Option<(Call, u64, Stage)>
         ensures kept { result ≡ kept_in (thread_of self.old pid tid) }
         ensures runs { self.new ≡ with_thread self.old pid tid Thread.Runnable }
     {
@@ -91,7 +104,7 @@ impl Kernel {
     }
 
     // The same of a thread that is noted nowhere any more then.
-    fn resume(&mut self, pid: Pid, tid: Tid) -> Option<(Call, u64)>
+    fn resume(&mut self, pid: Pid, tid: Tid) -> Option<(Call, u64, Stage)>
         ensures kept { result ≡ kept_in (thread_of self.old pid tid) }
         ensures runs { self.new ≡ with_thread self.old pid tid Thread.Runnable }
     {
@@ -109,23 +122,32 @@ impl Kernel {
         }
     }
 
-    /// Whether a thread waits in a call that would be done now, in a run with these constants. Looks at that thread alone.
+    /// Whether a thread waits and goes on now, in a run with these constants: it was given the lock that it waits for or signalled, its time has
+    /// come, or else the call that it waits in would be done. Looks at that thread alone.
     pub fn is_ready(&self, constants: &Constants, pid: Pid, tid: Tid) -> bool
         ensures { result ≡ is_ready constants.now self.now pid tid }
     {
         match self.thread(pid, tid) {
-            Some(Thread::Waits { call, since, .. }) => {
+            Some(
+                Thread::Waits {
+                    call,
+                    since,
+                    until,
+                    stage,
+                },
+            ) => {
                 let table = self.tables.get(u64::from(pid.0));
-                is_over(self.around(constants), table, *since, call)
+                goes_on(self.around(constants), table, call, *since, *until, *stage)
             }
             _ => false,
         }
     }
 
     /// The wake of a thread in a run with these constants: `None`, with nothing changed, exactly where it isn't ready. Else it runs, and
-    /// the call that it waited in is done: this is the call, with its answer. Where the places of the call's output can't be written any
-    /// more, it is refused by `Errno::Fault`. A wake takes 1000 nanoseconds. `Errno::Nomem` comes only where memory runs out in a call that would
-    /// else succeed. A wake that answers an error moves only the clock, and the thread runs.
+    /// the call that it waited in is done: this is the call, with its answer. A thread that has left its condition variable and doesn't get
+    /// its lock waits for that, and the call isn't done yet. Where the word of the lock or the places of the call's output can't be accessed
+    /// any more, it is refused by `Errno::Fault`. A wake takes 1000 nanoseconds. `Errno::Nomem` comes only where memory runs out in a call that
+    /// would else succeed. A wake that answers an error moves only the clock, and the thread runs.
     pub fn wake(
         &mut self,
         constants: &Constants,
@@ -137,12 +159,12 @@ impl Kernel {
         requires epoch { constants.now.epoch ≤ 2 ^ 62 }
         ensures none { IfNone result ((is_ready constants.now self.old pid tid ≡ false) × (self.new ≡ self.old)) }
         ensures ready { IfSome result (λ _. is_ready constants.now self.old pid tid ≡ true) }
-        ensures woken { IfSome result (λ done. (since : ℕ) → WaitsIn self.old (waiter pid tid since) done.0
-            → IsWake constants.now self.old (waiter pid tid since) done.0 given done.1 self.new) }
+        ensures woken { IfSome result (λ done. (since : ℕ) (stage : Stage) → WaitsIn self.old (waiter pid tid since stage) done.0
+            → IsWake constants.now self.old (waiter pid tid since stage) done.0 given done.1 self.new) }
         ensures kept { IfSome result (λ done. Some done.0 ≡ kept_call (thread_of self.old pid tid)) }
         ensures valid { IfSome result (λ _. IsValid self.new) }
-        ensures others { (since : ℕ) (call : Call) (q : Part) → WaitsIn self.old (waiter pid tid since) call
-            → IsUntouched constants.now (resumed self.old (waiter pid tid since)) (waiter pid tid since) call q → Agree self.new self.old q }
+        ensures others { (since : ℕ) (stage : Stage) (call : Call) (q : Part) → WaitsIn self.old (waiter pid tid since stage) call
+            → IsUntouched constants.now (resumed self.old (waiter pid tid since stage)) (waiter pid tid since stage) (woken call given) q → Agree self.new self.old q }
         ensures refused { IfSome result (λ done. (reply : Reply) → done.1 ≡ answer.Reply reply → reply.errno ≢ Errno.Success
             → self.new ≡ tick (with_thread self.old pid tid Thread.Runnable)) }
     {
@@ -150,14 +172,22 @@ impl Kernel {
             self.note(pid, tid);
             return None;
         }
-        let (call, since) = self.resume(pid, tid)?;
+        let (mut call, since, stage) = self.resume(pid, tid)?;
         match given {
             WakeIn::Fault => {
                 self.clock += STEP_TIME;
                 Some((call, Answer::Reply(refused(Errno::Fault))))
             }
-            WakeIn::Plain { .. } => {
-                let answer = self.run(constants, &Who { pid, tid, since }, &call);
+            WakeIn::Plain { word } => {
+                let who = Who {
+                    pid,
+                    tid,
+                    since,
+                    stage: Some(stage),
+                };
+                let old = set_word(&mut call, word);
+                let answer = self.run(constants, &who, &call);
+                set_word(&mut call, old);
                 Some((call, answer))
             }
         }

@@ -16,7 +16,7 @@ use Rattle.kernel_model.specs.Families.ForkCalls.{can_fork, child_number, fork_a
 use Rattle.kernel_model.specs.Families.Numbers.{can_number}
 use Rattle.kernel_model.specs.Laws.{IsNotThere}
 use Rattle.kernel_model.specs.Outcome.{Outcome, replies}
-use Rattle.kernel_model.specs.OwnChanges.{OwnChange, keeps_own, makes_one, ends_one, draws_words, forks_one, begins_anew, born_of, child_parts, is_success, may_bear, next_child}
+use Rattle.kernel_model.specs.OwnChanges.{OwnChange, keeps_own, makes_one, ends_one, draws_words, forks_one, begins_anew, lets_lock_go, signals_some, hands_lock_on, born_of, child_parts, is_success, may_bear, next_child}
 use Rattle.kernel_model.specs.Proper.{IsIn}
 use Rattle.kernel_model.specs.Reply.{refused}
 use Rattle.kernel_model.specs.State.{State, ProcessState, Table, Part, at_proc, at_status, same_part, has_part}
@@ -72,7 +72,10 @@ pub child_is_absent : (S : State) (p : ℕ) (change : OwnChange) (q : Part) → 
     → has_part (child_parts (born_of change p (get S.processes p))) q ≡ true → IsNotThere S q
 child_is_absent S p keeps_own q v h = absurd (not_true h)
 child_is_absent S p makes_one q v h = absurd (not_true h)
-child_is_absent S p ends_one q v h = absurd (not_true h)
+child_is_absent S p (ends_one lock word) q v h = absurd (not_true h)
+child_is_absent S p (lets_lock_go lock word) q v h = absurd (not_true h)
+child_is_absent S p (signals_some condvar n) q v h = absurd (not_true h)
+child_is_absent S p (hands_lock_on lock) q v h = absurd (not_true h)
 child_is_absent S p (draws_words words) q v h = absurd (not_true h)
 child_is_absent S p (begins_anew words) q v h = absurd (not_true h)
 child_is_absent S p forks_one q v h = next_is_absent S p q v (get S.processes p) refl h

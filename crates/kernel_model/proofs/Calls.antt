@@ -17,6 +17,7 @@ use Rattle.kernel_model.proofs.DescriptorCalls.{fd_close_is_proper, fd_dup_is_pr
 use Rattle.kernel_model.proofs.FileBytes.{fd_pread_is_proper, fd_pwrite_is_proper}
 use Rattle.kernel_model.proofs.FileChanges.{file_allocate_is_proper, file_stat_fput_is_proper, file_stat_put_is_proper}
 use Rattle.kernel_model.proofs.FileLooks.{file_advise_is_proper, file_readdir_is_proper, file_readlink_is_proper, file_stat_fget_is_proper, file_stat_get_is_proper}
+use Rattle.kernel_model.proofs.LockCalls.{condvar_signal_is_proper, lock_unlock_is_proper}
 use Rattle.kernel_model.proofs.NameLinking.{file_link_is_proper}
 use Rattle.kernel_model.proofs.NameMaking.{file_create_is_proper, file_symlink_is_proper}
 use Rattle.kernel_model.proofs.NameMoving.{file_rename_is_proper}
@@ -30,7 +31,7 @@ use Rattle.kernel_model.proofs.Polls.{poll_is_proper}
 pub proper : (call : Call) → IsProper (meaning_of call)
 proper (call.ClockResGet clock) = answering_is_proper [] (success 1000 0) refl (inl refl)
 proper (call.ClockTimeGet clock precision) = clock_time_get_is_proper clock
-proper (call.CondvarSignal condvar word scope n) = naming_is_proper []
+proper (call.CondvarSignal condvar word scope n) = condvar_signal_is_proper condvar n
 proper (call.FdClose fd) = fd_close_is_proper fd
 proper (call.FdCreate1 kind) = naming_is_proper []
 proper (call.FdCreate2 kind) = fd_create2_is_proper kind
@@ -59,7 +60,7 @@ proper (call.FileStatGet lookup path) = file_stat_get_is_proper lookup path
 proper (call.FileStatPut lookup path stat flags) = file_stat_put_is_proper lookup path stat flags
 proper (call.FileSymlink text fd path) = file_symlink_is_proper text fd path
 proper (call.FileUnlink fd path flags) = file_unlink_is_proper fd path flags
-proper (call.LockUnlock lock word scope) = naming_is_proper []
+proper (call.LockUnlock lock word scope) = lock_unlock_is_proper lock word
 proper (call.MemMap place length prot flags fd offset) = mem_map_is_proper place length prot flags fd offset
 proper (call.Memory number errno) = decided_is_proper errno
 proper (call.Poll subscriptions) = poll_is_proper subscriptions

@@ -1,7 +1,7 @@
 -- What waits in channels after a step waited there before, or the call sent it.
 --     released_waits      what the release leaves waiting waited before it
 --     waiting_was_held, end_carries_nothing      the laws
-use Rattle.std.proofs.Common.{◌≡◌, ◌≢◌, ◌⊎◌, inl, inr, ℕ, Bool, true, false, List, [], ◌∷◌, ◌++◌, Option, None, Some, refl, sym, ap, subst, ◌∙◌}
+use Rattle.std.proofs.Common.{◌≡◌, ◌≢◌, ◌⊎◌, inl, inr, ℕ, ◌+◌, Bool, true, false, List, [], ◌∷◌, ◌++◌, Option, None, Some, refl, sym, ap, subst, ◌∙◌}
 use Rattle.std.proofs.lemmas.Bool.Decides.{eqb_tells}
 use Rattle.std.proofs.lemmas.List.{append_assoc}
 use Rattle.std.specs.FinMap.{get, insert}
@@ -34,7 +34,7 @@ use Rattle.kernel_model.proofs.ChannelChanges.{after_all, append_all, carried_bo
 use Rattle.kernel_model.proofs.Channels.{all_both, channel_released, was_channel}
 use Rattle.kernel_model.proofs.Lists.{all_weaker, in_all}
 use Rattle.kernel_model.proofs.Outcomes.{outcome_holds}
-use Rattle.kernel_model.proofs.Readiness.{parking_keeps}
+use Rattle.kernel_model.proofs.Readiness.{parking_changes}
 use Rattle.kernel_model.proofs.Refusals.{error_keeps}
 use Rattle.kernel_model.proofs.Touches.{end_is}
 use Rattle.kernel_model.proofs.Valids.{same_value, tick_nearly_valid}
@@ -165,7 +165,7 @@ step_from constants S who call given T c d nearly (inl done) waits =
     let U = unreleased constants S who call in
     let after : Waits (release U) c d = subst (λ (V : State). Waits V c d) done.1 waits in
     outcome_from constants S who call c d nearly
-    (parked_waits (step_answer constants S who call) who (waiting constants call who.since) (put_all (outcome constants S who call).updates (tick S)) c d
+    (parked_waits (step_answer constants S who call) who (waiting constants call who (S.clock + 1000)) (put_all (outcome constants S who call).updates (tick S)) c d
     (released_waits U c d after))
 step_from constants S who call given T c d nearly (inr lacking) waits = inl (subst (λ (V : State). Waits V c d) lacking.2 waits)
 
@@ -188,7 +188,7 @@ replied_from constants S who call reply T c d valid step waits (inl success) =
 
 pub waiting_was_held : WaitingWasHeld
 waiting_was_held constants S who call (answer.Parked writes) T c d valid step waits =
-    inl (subst (λ (V : State). Waits V c d) (parking_keeps constants S who call writes T step valid) waits)
+    inl (subst (λ (V : State). Waits V c d) (parking_changes constants S who call writes T step valid).1 waits)
 waiting_was_held constants S who call (answer.Reply reply) T c d valid step waits =
     replied_from constants S who call reply T c d valid step waits (succeeds_or reply.errno)
 

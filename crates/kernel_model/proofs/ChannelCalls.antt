@@ -20,10 +20,10 @@ use Rattle.abi_types.specs.declared.reply.Reply.{Reply}
 use Rattle.kernel_model.specs.Channels.{Channel, has_room, is_hung, must_wait, pull, push_if, reach, room}
 use Rattle.kernel_model.specs.Families.ChannelCalls.{is_nonblocking, read_end, read_from, read_if, send_on, send_to, sent_by, waits_unless}
 use Rattle.kernel_model.specs.Outcome.{Outcome, is_parked, replies}
-use Rattle.kernel_model.specs.Proper.{AllCarryOn, IsIn, IsPlain, IsSentBy, IsUnset, OrWaits, Sender}
+use Rattle.kernel_model.specs.Proper.{AllCarryOn, IsIn, IsPlain, IsSentBy, IsUnset, OrWaits, Sender, nothing_set}
 use Rattle.kernel_model.specs.Reply.{refused}
 use Rattle.kernel_model.specs.Sight.{process_parts, behind, channel_part}
-use Rattle.kernel_model.specs.State.{State, Part, at_chan, at_open, has_part, put_all}
+use Rattle.kernel_model.specs.State.{ProcessState, State, Part, at_chan, at_open, has_part, put_all}
 use Rattle.kernel_model.specs.Valid.{IsNamed, IsNearlyValid}
 use Rattle.kernel_model.specs.View.{View, only, restrict, whole}
 use Rattle.kernel_model.proofs.Branches.{seen_parts}
@@ -38,7 +38,7 @@ pub record Ends (Q : State → Type 0) (R : Sender → Type 0) (errors : List Er
     (outcome : Outcome) : Type 0 where
   pub apart : AreOfNoProcess outcome.updates
   pub sets : (q : Part) → has_part touched q ≡ false → IsUnset outcome q
-  pub plain : OrWaits true outcome (IsPlain errors outcome)
+  pub plain : (p : ℕ) (own : Option ProcessState) → OrWaits true p own outcome (IsPlain errors outcome)
   pub carries : (S : State) → whole S ≡ v → (sender : Sender) → R sender → AllCarryOn S sender outcome
   pub valid : (S : State) → whole S ≡ v → get S.opens o ≡ kind → IsNearlyValid S → Q S → IsNearlyValid (put_all outcome.updates S)
 
@@ -49,16 +49,16 @@ RepliesWell reply = (count : ℕ) → ((reply count).denial ≡ None) × ((reply
 module _ (Q : State → Type 0) (R : Sender → Type 0) (errors : List Errno) (touched : List Part) (v : View) (o : ℕ) (kind : Option OpenKind) where
   pub ends_refused : (errno : Errno) → IsIn errno errors → Ends Q R errors touched v o kind (replies (refused errno))
   ends_refused errno here =
-      record { apart = tt; sets = λ q h. refl; plain = inr (refl, inr (refl, here)); carries = λ S seen sender holds. tt; valid = λ S seen there nearly fits. nearly }
+      record { apart = tt; sets = λ q h. refl; plain = λ p own. inr (refl, inr (refl, here)); carries = λ S seen sender holds. tt; valid = λ S seen there nearly fits. nearly }
 
   pub ends_reply : (reply : Reply) → reply.denial ≡ None → reply.errno ≡ Success → Ends Q R errors touched v o kind (replies reply)
   ends_reply reply plain success =
-      record { apart = tt; sets = λ q h. refl; plain = inr (plain, inl success); carries = λ S seen sender holds. tt; valid = λ S seen there nearly fits. nearly }
+      record { apart = tt; sets = λ q h. refl; plain = λ p own. inr (plain, inl success); carries = λ S seen sender holds. tt; valid = λ S seen there nearly fits. nearly }
 
   pub ends_waiting : IsIn Again errors → (nonblocking : Bool) → Ends Q R errors touched v o kind (waits_unless nonblocking)
   ends_waiting again true = ends_refused Again again
   ends_waiting again false =
-      record { apart = tt; sets = λ q h. refl; plain = inl (refl, refl); carries = λ S seen sender holds. tt; valid = λ S seen there nearly fits. nearly }
+      record { apart = tt; sets = λ q h. refl; plain = λ p own. inl (refl, nothing_set refl refl); carries = λ S seen sender holds. tt; valid = λ S seen there nearly fits. nearly }
 
 -- ---- sending
 
@@ -106,7 +106,7 @@ module _ (reply : ℕ → Reply) (well : RepliesWell reply) (errors : List Errno
   push_ends channel is false true hangs room_is = record {
     apart = (tt, tt);
     sets = λ q h. h;
-    plain = inr ((well (min (length (b ∷ bytes)) (room channel))).0, inl (well (min (length (b ∷ bytes)) (room channel))).1);
+    plain = λ p own. inr ((well (min (length (b ∷ bytes)) (room channel))).0, inl (well (min (length (b ∷ bytes)) (room channel))).1);
     carries = λ S seen sender held.
         let at : get S.chans c ≡ Some channel = ap (λ (x : View). x.channel c) seen ∙ is in
         (pushed_carries S sender c channel at (take (room channel) (b ∷ bytes)) carried held, tt);
@@ -190,7 +190,7 @@ module _ (errors : List Errno) (badf : IsIn Badf errors) (again : IsIn Again err
   pull_ends kind c nonblocking channel is false = record {
     apart = (tt, tt);
     sets = λ q h. h;
-    plain = inr (refl, inl refl);
+    plain = λ p own. inr (refl, inl refl);
     carries = λ S seen sender _.
         let at : get S.chans c ≡ Some channel = ap (λ (x : View). x.channel c) seen ∙ is in
         (drawn_carries S sender c channel at (min n (reach channel.waiting)), tt);

@@ -273,7 +273,6 @@ module _ (S : State) (c : ℕ) (old new : Channel) (there : get S.chans c ≡ So
     tree = v.tree;
     waits = v.waits;
     channels = put_joined joined v;
-    nobody = v.nobody;
   }
 
 -- ---- how a channel goes on

@@ -73,14 +73,16 @@ sight_decides constants S T who call same =
 -- ---- after the step
 
 -- two states that agree on a part, where the same updates are put into both
-unreleased_alike : (constants : Constants) (S T : State) (who : Who) (call : Call) (q : Part) → outcome constants S who call ≡ outcome constants T who call
+unreleased_alike : (constants : Constants) (S T : State) (who : Who) (call : Call) (q : Part) → S.clock ≡ T.clock → outcome constants S who call ≡ outcome constants T who call
     → Agree S T q → Agree (unreleased constants S who call) (unreleased constants T who call) q
-unreleased_alike constants S T who call q same h =
-    let thread = waiting constants call who.since in
-    subst (λ (o : Outcome). Agree (unreleased constants S who call) (waits_if o.answer who thread (put_all o.updates (tick T))) q) same
+unreleased_alike constants S T who call q clock same h =
+    let thread = waiting constants call who (S.clock + 1000) in
+    subst (λ n. Agree (unreleased constants S who call)
+    (waits_if (outcome constants T who call).answer who (waiting constants call who (n + 1000)) (put_all (outcome constants T who call).updates (tick T))) q) clock
+    (subst (λ (o : Outcome). Agree (unreleased constants S who call) (waits_if o.answer who thread (put_all o.updates (tick T))) q) same
     (waits_alike (outcome constants S who call).answer who thread (put_all (outcome constants S who call).updates (tick S))
     (put_all (outcome constants S who call).updates (tick T)) q
-    (put_same (outcome constants S who call).updates (tick S) (tick T) q (tick_alike S T q h)))
+    (put_same (outcome constants S who call).updates (tick S) (tick T) q (tick_alike S T q h))))
 
 same_test : (a b : Bool) → not a ≡ not b → a ≡ b
 same_test true true e = refl
@@ -134,6 +136,6 @@ step_decided constants S T who call same =
       ap (λ (o : Outcome). o.answer) alike,
       λ ends. each_part (step_state constants S who call) (step_state constants T who call) (sight S who call) (λ q there.
           release_alike (unreleased constants S who call) (unreleased constants T who call) q
-          (unreleased_alike constants S T who call q alike (agree_at S T (sight S who call) q same.1 there))
+          (unreleased_alike constants S T who call q (sees_clock S T who call same.1) alike (agree_at S T (sight S who call) q same.1 there))
           (ends q there)),
     )

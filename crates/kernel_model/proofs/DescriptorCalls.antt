@@ -107,6 +107,7 @@ setting_is_proper : (named : List ℕ) (errors : List Errno) (takes : Bool) (f :
       errors = errors;
       takes_memory = takes;
       may_wait = false;
+      by_stage = false;
       deadline = λ constants since. None;
       sends = [];
     })

@@ -11,7 +11,7 @@ use Rattle.abi_types.specs.declared.status.Status.TheVariants.{Live}
 use Rattle.maps.specs.Maps.{get-insert-same, get-insert-other}
 use Rattle.kernel_model.specs.Families.ProcessCalls.{ended_process, end_updates}
 use Rattle.kernel_model.specs.Release.{ends}
-use Rattle.kernel_model.specs.State.{State, Table, ProcessState, put_all, threads_of, thread_in, thread_of, counts_in, locks_in, no_locks}
+use Rattle.kernel_model.specs.State.{State, Table, ProcessState, put_all, threads_of, thread_in, thread_of, counts_in}
 use Rattle.kernel_model.specs.Valid.{IsNearlyValid}
 use Rattle.kernel_model.specs.Waits.{MayWait}
 use Rattle.kernel_model.proofs.Children.{all_born, end_keeps}
@@ -89,15 +89,6 @@ ended_waits S p status v q t =
       | inr other ↦ subst (λ o. MayWait (thread_in (option_map (λ (own : ProcessState). own.threads) o) t)) (sym (process_apart S p status q other.1)) (v.waits q t)
     ]
 
-ended_nobody : (S : State) (p : ℕ) (status : Status) → IsNearlyValid S → (q : ℕ)
-    → locks_in (get (put_all (end_updates p (get S.processes p) status) S).processes q) ≡ no_locks
-ended_nobody S p status v q =
-    elim (eqb_tells q p) [
-      | inl is ↦ subst (λ j. locks_in (get (put_all (end_updates p (get S.processes p) status) S).processes j) ≡ no_locks) (sym is.1)
-          (ap locks_in (process_at S.processes p))
-      | inr other ↦ ap locks_in (process_apart S p status q other.1) ∙ v.nobody q
-    ]
-
 -- a process that was made may end
 pub end_nearly_valid : (S : State) (p : ℕ) (status : Status) → IsSome (get S.statuses p) → IsNearlyValid S
     → IsNearlyValid (put_all (end_updates p (get S.processes p) status) S)
@@ -122,5 +113,4 @@ end_nearly_valid S p status made v = record {
   channels = v.channels;
   made_channels = λ q k small beyond fits.
       v.made_channels q k small (subst (λ (c : Counts). c.objects < k) (counts_stay S p status q) beyond) fits;
-  nobody = ended_nobody S p status v;
 }

@@ -30,7 +30,7 @@ use Rattle.kernel_model.specs.Reply.{refused}
 use Rattle.kernel_model.specs.Rows.{base_row}
 use Rattle.kernel_model.specs.Sight.{behind, process_parts, reached_by}
 use Rattle.kernel_model.specs.Start.{canary_words}
-use Rattle.kernel_model.specs.State.{State, ProcessState, Table, Threads, Part, at_clock, at_open, at_proc, at_status, has_part, locks_in, no_locks, put_all, put_one, same_part, set_process, set_table, tree_of}
+use Rattle.kernel_model.specs.State.{State, ProcessState, Table, Threads, Part, at_clock, at_open, at_proc, at_status, has_part, put_all, put_one, same_part, set_process, set_table, tree_of}
 use Rattle.kernel_model.specs.Step.{tick}
 use Rattle.kernel_model.specs.Valid.{IsNamed, IsNearlyValid}
 use Rattle.kernel_model.specs.View.{View, restrict, whole}
@@ -187,14 +187,13 @@ retained_empty t = same_numbers _ _ (λ u. get-retain (empty {X = Thread} {R = n
   none true u = refl
   none false u = sym (get-empty nat_cmp u)
 
-anew_grows : (words t : ℕ) (own : ProcessState) → locks_in (Some own) ≡ no_locks → Grows own (begun_anew words t own)
-anew_grows words t own nobody = record {
+anew_grows : (words t : ℕ) (own : ProcessState) → Grows own (begun_anew words t own)
+anew_grows words t own = record {
   threads = λ u thread at. inl (retained_was own.threads t u thread at);
   none = λ none. ap (λ (m : Threads). retain_keys m (λ k. k == t)) none ∙ retained_empty t;
   numbered = omega arith;
   more = omega arith;
   children = (refl, omega arith);
-  locks = sym nobody;
 }
 
 exec_valid : (key : List ℕ) (p t fd : ℕ) (fds : List ℕ) (table : Table) (S : State) (d : Option Descriptor) → get table fd ≡ d → get S.tables p ≡ Some table
@@ -203,7 +202,7 @@ exec_valid key p t fd fds table S d at has v =
     exec_at_holds key p t (listed table fds) (whole S) (λ x. IsNearlyValid (put_all x.updates S)) (λ errno here other. v) d
     (λ x node own is program there.
     let anew = set_process_nearly_valid S p own (begun_anew canary_words t own) there
-    (anew_grows canary_words t own (sym (ap locks_in there) ∙ v.nobody p)) v in
+    (anew_grows canary_words t own) v in
     table_nearly_valid (put_one (set_process p (begun_anew canary_words t own)) S) p table (listed table fds) has (holder_lives S p fd table x has (at ∙ is) v)
     (listed_all (λ y. IsNamed (get S.opens y.id) y) table (λ n y here. v.named p n table y has here) 0 fds) anew)
 

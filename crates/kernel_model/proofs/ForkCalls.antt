@@ -99,7 +99,6 @@ fork_grows own = record {
   numbered = omega arith;
   more = omega arith;
   children = (refl, omega arith);
-  locks = refl;
 }
 
 module _ (S : State) (left p t : ℕ) (own : ProcessState) (there : get S.processes p ≡ Some own) (can : CanFork left p t own) (table : Table)
@@ -132,7 +131,7 @@ module _ (S : State) (left p t : ℕ) (own : ProcessState) (there : get S.proces
   no_process = get-insert-other S.processes p new c child_is_not_parent ∙ unmade.process
 
   fresh : IsFresh (child_process t own)
-  fresh = record { runs = runs; nothing = refl; locks = refl } where
+  fresh = record { runs = runs; nothing = refl } where
     runs : (u : ℕ) (thread : Thread) → get (child_process t own).threads u ≡ Some thread → (thread ≡ Runnable) × (u ≤ own.counts.threads)
     runs u thread at =
         elim (eqb_tells u t) [

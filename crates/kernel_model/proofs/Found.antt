@@ -16,7 +16,6 @@ use Rattle.abi_types.specs.declared.reply.Reply.{Reply}
 use Rattle.abi_types.specs.declared.who.Who.{Who}
 use Rattle.kernel_model.specs.CallBounds.{BadfIsAbsent, IsAbsentIn, IsBadfBefore}
 use Rattle.kernel_model.specs.Calls.{meaning_of, named, need, refusal, refusal_of}
-use Rattle.kernel_model.specs.Families.LockWords.{unlocked}
 use Rattle.kernel_model.specs.Families.DescriptorCalls.{lowest_free}
 use Rattle.kernel_model.specs.Families.ProcessCalls.{signal_of}
 use Rattle.kernel_model.specs.Families.SocketCalls.{made_of}
@@ -32,6 +31,7 @@ use Rattle.kernel_model.specs.Valid.{IsNearlyValid}
 use Rattle.kernel_model.proofs.FoundFiles.{fd_close_found, fd_dup_found, fd_pread_found, fd_pwrite_found, fd_replace_found, fd_stat_get_found, fd_stat_put_found, file_allocate_found, file_readdir_found, file_readlink_found, file_stat_fget_found, file_stat_fput_found, file_stat_get_found, file_stat_put_found}
 use Rattle.kernel_model.proofs.FoundNames.{file_create_found, file_link_found, file_open_found, file_rename_found, file_symlink_found, file_unlink_found}
 use Rattle.kernel_model.proofs.FoundOpens.{NeverBadf, OnlyWhere}
+use Rattle.kernel_model.proofs.LockCalls.{signal_holds, unlock_holds}
 use Rattle.kernel_model.proofs.Polls.{poll_holds}
 use Rattle.kernel_model.proofs.FoundSockets.{created_found, sock_recv_found, sock_send_found, sock_shutdown_found}
 use Rattle.kernel_model.proofs.FoundStreams.{fd_read_found, fd_seek_found, fd_write_found, mem_map_found}
@@ -79,15 +79,22 @@ module _ (S : State) (nearly : IsNearlyValid S) where
   found (call.MemMap place length prot flags fd offset) = mem_map_found S nearly place length prot flags fd offset
   found (call.Memory number errno) = λ constants who table own all met e. e
   found (call.Poll subscriptions) = λ constants who table own all met.
-      poll_holds (OnlyWhere (IsBadfBefore (call.Poll subscriptions))) (λ e. cc) (λ event more e. cc) tt subscriptions constants (whole (tick S)) who table
+      poll_holds (OnlyWhere (IsBadfBefore (call.Poll subscriptions)))
+      (record { told = λ event more e. cc; tells = λ userdata what errno writes e. cc; waits = λ writes awake. tt; sleeps = λ p condvar lock x. tt })
+      subscriptions constants (whole (tick S)) who table
+  found (call.CondvarSignal condvar word scope n) = λ constants who table own all met.
+      signal_holds (OnlyWhere (IsBadfBefore (call.CondvarSignal condvar word scope n))) who.pid condvar n (get S.processes who.pid) (λ _ e. cc) (λ x there e. cc)
+  found (call.LockUnlock lock word scope) = λ constants who table own all met.
+      unlock_holds (OnlyWhere (IsBadfBefore (call.LockUnlock lock word scope))) who.pid who.tid lock word (get S.processes who.pid) (λ e. cc)
+      (λ x new there e. cc)
   found (call.RandomGet length) = λ constants who table own all met.
       drawn_holds (OnlyWhere (IsBadfBefore (call.RandomGet length))) constants who.pid (get S.processes who.pid) length (λ e. cc) (λ x _ e. cc)
   found (call.Refused number errno) = λ constants who table own all met e. e
   found (call.ThreadCreate attributes) = λ constants who table own all met.
       made_holds (OnlyWhere (IsBadfBefore (call.ThreadCreate attributes))) who.pid who.tid (get S.processes who.pid) (λ e. cc) (λ x _ _ e. cc)
   found (call.ThreadExit lock word scope) = λ constants who table own all met.
-      left_holds (OnlyWhere (IsBadfBefore (call.ThreadExit lock word scope))) who.pid who.tid (get S.processes who.pid) lock (unlocked who.tid word)
-      (λ e. cc) (λ new _ e. cc) (λ new x _ _ e. cc)
+      left_holds (OnlyWhere (IsBadfBefore (call.ThreadExit lock word scope))) who.pid who.tid lock word (get S.processes who.pid) (λ e. cc)
+      (λ new x _ _ _ e. cc) (λ new x _ _ _ e. cc)
   found (call.FdCreate2 kind) = λ constants who table own all met.
       create_holds who.pid who.tid (get S.processes who.pid) table (OnlyWhere (IsBadfBefore (call.FdCreate2 kind)))
       (created_found (IsBadfBefore (call.FdCreate2 kind)))

@@ -139,7 +139,7 @@ Holds S o = HoldsAsMuch S (put_all o.updates S)
 held_after : (constants : Constants) (S : State) (who : Who) (call : Call) → Holds (tick S) (outcome constants S who call)
     → HoldsAsMuch (tick S) (unreleased constants S who call)
 held_after constants S who call holds =
-    waits_if_same (HoldsAsMuch (tick S)) (outcome constants S who call).answer who (waiting constants call who.since)
+    waits_if_same (HoldsAsMuch (tick S)) (outcome constants S who call).answer who (waiting constants call who (S.clock + 1000))
     (put_all (outcome constants S who call).updates (tick S)) (λ h. record { opens = h.opens; held = h.held; carried = h.carried }) holds
 
 -- ---- fd_dup

@@ -10,6 +10,8 @@ pub mod Children
 pub mod Valids
 pub mod EndedValid
 pub mod OwnChanges
+pub mod MovedThreads
+pub mod Locks
 pub mod Sights
 pub mod ObjectNumbers
 pub mod Answering
@@ -40,6 +42,8 @@ pub mod PairCalls
 pub mod MemoryCalls
 pub mod FileCalls
 pub mod ProcessCalls
+pub mod LockCalls
+pub mod LockPolls
 pub mod ThreadCalls
 pub mod ClockCalls
 pub mod Births
@@ -64,9 +68,13 @@ pub mod Touches
 pub mod Carried
 pub mod Sending
 pub mod SendCounts
+pub mod Moving
 pub mod Threads
 pub mod Steps
 pub mod ThreadLaws
+pub mod LockTurns
+pub mod LockSignals
+pub mod LockAnswers
 pub mod ForkLaws
 pub mod Decisions
 pub mod Lacks
@@ -75,6 +83,7 @@ pub mod Readiness
 pub mod PollTimes
 pub mod PollEvents
 pub mod PollLaws
+pub mod WokenCalls
 pub mod Waking
 pub mod WaitedCalls
 pub mod WakeSights

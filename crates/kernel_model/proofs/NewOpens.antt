@@ -94,7 +94,6 @@ module _ (S : State) (o : ℕ) (kind : OpenKind) (none : get S.opens o ≡ None)
     waits = v.waits;
     channels = opens_joined S.opens (insert S.opens o kind) S.chans still_named still_ends v.channels;
     made_channels = v.made_channels;
-    nobody = v.nobody;
   }
 
 -- ---- one descriptor more
@@ -150,5 +149,4 @@ module _ (S : State) (p : ℕ) (table : Table) (there : get S.tables p ≡ Some 
     waits = v.waits;
     channels = v.channels;
     made_channels = v.made_channels;
-    nobody = v.nobody;
   }

@@ -14,7 +14,7 @@ use Rattle.abi_types.specs.declared.thread.Thread.{Thread}
 use Rattle.abi_types.specs.declared.thread.Thread.TheVariants.{Runnable}
 use Rattle.maps.specs.Maps.{get-insert-same, get-insert-other}
 use Rattle.kernel_model.specs.Families.Children.{IsBorn, IsChild}
-use Rattle.kernel_model.specs.State.{State, ProcessState, Table, Threads, counts_in, locks_in, no_locks, put_all, set_process, set_status, set_table, thread_in, thread_of, threads_of}
+use Rattle.kernel_model.specs.State.{State, ProcessState, Table, Threads, counts_in, put_all, set_process, set_status, set_table, thread_in, thread_of, threads_of}
 use Rattle.kernel_model.specs.Valid.{IsNamed, IsNearlyValid}
 use Rattle.kernel_model.specs.Waits.{MayWait}
 use Rattle.kernel_model.proofs.Tests.{none_is_no, not_true, same_some}
@@ -44,11 +44,10 @@ module _ (old new : FinMap nat_cmp ProcessState) (more : (q : ℕ) (own : Proces
 abbrev threads_in : Option ProcessState → Option Threads
 threads_in own = option_map (λ (x : ProcessState). x.threads) own
 
--- what a new process has: each thread of it runs and is numbered, it has made nothing, and nobody waits
+-- what a new process has: each thread of it runs and is numbered, and it has made nothing
 pub record IsFresh (own : ProcessState) : Type 0 where
   pub runs : (t : ℕ) (thread : Thread) → get own.threads t ≡ Some thread → (thread ≡ Runnable) × (t ≤ own.counts.threads)
   pub nothing : own.counts.objects ≡ 0
-  pub locks : own.locks ≡ no_locks
 
 module _ (S : State) (v : IsNearlyValid S) (c : ℕ) (own : ProcessState) (table : Table) (none : get S.processes c ≡ None) (fresh : IsFresh own)
     (child : IsChild S.processes c own.depth) (named : (n : ℕ) (d : Descriptor) → get table n ≡ Some d → IsNamed (get S.opens d.id) d) where
@@ -131,13 +130,6 @@ module _ (S : State) (v : IsNearlyValid S) (c : ℕ) (own : ProcessState) (table
         | inr other ↦ subst (λ o. MayWait (thread_in (threads_in o) t)) (sym (apart q other.1)) (v.waits q t)
       ]
 
-  all_nobody : (q : ℕ) → locks_in (get after.processes q) ≡ no_locks
-  all_nobody q =
-      elim (eqb_tells q c) [
-        | inl is ↦ subst (λ k. locks_in (get after.processes k) ≡ no_locks) (sym is.1) (ap locks_in here ∙ fresh.locks)
-        | inr other ↦ ap locks_in (apart q other.1) ∙ v.nobody q
-      ]
-
   beyond_before : (q k : ℕ) → (counts_in (get after.processes q)).objects < k → (counts_in (get S.processes q)).objects < k
   beyond_before q k beyond = subst (λ n. n < k) (same_made q) beyond
 
@@ -157,5 +149,4 @@ module _ (S : State) (v : IsNearlyValid S) (c : ℕ) (own : ProcessState) (table
     tree = v.tree;
     waits = all_wait;
     channels = v.channels;
-    nobody = all_nobody;
   }

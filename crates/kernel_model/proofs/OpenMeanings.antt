@@ -19,7 +19,7 @@ use Rattle.kernel_model.specs.Outcome.{Outcome, is_parked, replies}
 use Rattle.kernel_model.specs.Proper.{AllCarryOn, IsIn, IsPlain, IsProper, IsUnset, OrWaits, may_send}
 use Rattle.kernel_model.specs.Reply.{refused}
 use Rattle.kernel_model.specs.Sight.{process_parts, behind, reached_by}
-use Rattle.kernel_model.specs.State.{State, Table, Part, Update, at_proc, at_status, at_open, same_part, has_part, part_of, put_all, put_one, set_table, set_process, set_status}
+use Rattle.kernel_model.specs.State.{ProcessState, State, Table, Part, Update, at_proc, at_status, at_open, same_part, has_part, part_of, put_all, put_one, set_table, set_process, set_status}
 use Rattle.kernel_model.specs.Step.{tick}
 use Rattle.kernel_model.specs.Valid.{IsNearlyValid}
 use Rattle.kernel_model.specs.View.{View, restrict, whole}
@@ -88,7 +88,7 @@ pub record SeesWell (m : OpenMeaning) : Type 0 where
       → m.effect now (restrict S (seen_parts S p o kind)) o kind ≡ m.effect now (whole S) o kind
   pub seen : (S : State) (kind : Option OpenKind) (q : Part) → has_part (m.touched kind) q ≡ true → has_part (behind S kind) q ≡ true
   -- its thread waits, where it may, or it has its reply
-  pub plain : (now : ℕ) (v : View) (o : ℕ) (kind : Option OpenKind) → OrWaits m.may_wait (m.effect now v o kind) (IsPlain m.errors (m.effect now v o kind))
+  pub plain : (now p : ℕ) (own : Option ProcessState) (v : View) (o : ℕ) (kind : Option OpenKind) → OrWaits m.may_wait p own (m.effect now v o kind) (IsPlain m.errors (m.effect now v o kind))
   pub badf : IsIn Badf m.errors
   pub lacks : m.takes_memory ≡ true → AllByRecursion (λ errno. errno ≢ Nomem) m.errors
   pub waits : m.may_wait ≡ true → WaitsWell m
@@ -107,9 +107,9 @@ pub record OpensWell (m : OpenMeaning) : Type 0 where
       → IsNearlyValid (put_all (m.effect now (whole S) o kind).updates S)
 
 -- where a thread may wait it waits, or this holds
-pub or_waits : (b : Bool) (o : Outcome) (P : Type 0) → P → OrWaits b o P
-or_waits true o P h = inr h
-or_waits false o P h = h
+pub or_waits : (b : Bool) (p : ℕ) (own : Option ProcessState) (o : Outcome) (P : Type 0) → P → OrWaits b p own o P
+or_waits true p own o P h = inr h
+or_waits false p own o P h = h
 
 module _ (m : OpenMeaning) (well : SeesWell m) where
   pub reads_descriptor : (now : ℕ) (S : State) (p : ℕ) (d : Option Descriptor)
@@ -129,11 +129,11 @@ module _ (m : OpenMeaning) (well : SeesWell m) where
         | inr there ↦ ap (λ b. same_part (at_open d.id) q || b) (well.seen S (get S.opens d.id) q there) ∙ or_true (same_part (at_open d.id) q)
       ])
 
-  pub plain_descriptor : (now : ℕ) (v : View) (d : Option Descriptor)
-      → OrWaits m.may_wait (at_descriptor (m.effect now v) v d) (IsPlain m.errors (at_descriptor (m.effect now v) v d))
-  plain_descriptor now v None =
-      or_waits m.may_wait (replies (refused Badf)) (IsPlain m.errors (replies (refused Badf))) (refl, inr (refl, well.badf))
-  plain_descriptor now v (Some d) = well.plain now v d.id (v.opened d.id)
+  pub plain_descriptor : (now p : ℕ) (own : Option ProcessState) (v : View) (d : Option Descriptor)
+      → OrWaits m.may_wait p own (at_descriptor (m.effect now v) v d) (IsPlain m.errors (at_descriptor (m.effect now v) v d))
+  plain_descriptor now p own v None =
+      or_waits m.may_wait p own (replies (refused Badf)) (IsPlain m.errors (replies (refused Badf))) (refl, inr (refl, well.badf))
+  plain_descriptor now p own v (Some d) = well.plain now p own v d.id (v.opened d.id)
 
   pub patient_descriptor : (waits : WaitsWell m) (now before : ℕ) (v : View) (clock : ℕ) (d : Option Descriptor)
       → is_parked (at_descriptor (m.effect now v) v d).answer ≡ true
@@ -172,11 +172,11 @@ module _ (m : OpenMeaning) (well : OpensWell m) where
         sets_descriptor (real_time constants (tick S).clock) S (get table row.fd) part
         (beyond_process who.pid (open_part (get table row.fd) ++ m.touched (open_of (whole S) (get table row.fd))) part h).1;
     touched = λ S table part h. seen_descriptor m well.sees S (get table row.fd) part h;
-    plain = λ constants v who table. plain_descriptor m well.sees (real_time constants v.clock) v (get table row.fd);
+    plain = λ constants v who table. plain_descriptor m well.sees (real_time constants v.clock) who.pid (v.process who.pid) v (get table row.fd);
     waits = λ may. record {
       patient = λ constants v who table before earlier waits.
           patient_descriptor m well.sees (well.sees.waits may) (real_time constants v.clock) (real_time constants before) v before (get table row.fd) waits;
-      due = λ constants v who table come. absurd (not_true come);
+      due = λ _ constants v who table come. absurd (not_true come);
       inside = λ v table. refl;
       keeps = (well.sees.waits may).keeps;
     };

@@ -37,7 +37,6 @@ use Rattle.kernel_model.specs.Families.FileCalls.{file_fd, file_meaning}
 use Rattle.kernel_model.specs.Families.FileMeaning.{on_open, open_of}
 use Rattle.kernel_model.specs.Families.FileOffsets.{OffsetOutcome, seek_to, sought, stays, with_offset, write_from, write_place}
 use Rattle.kernel_model.specs.Families.FilePaths.{walked}
-use Rattle.kernel_model.specs.Families.LockWords.{unlocked}
 use Rattle.kernel_model.specs.Families.MemoryCalls.{map_row, map_zeros, mapping}
 use Rattle.kernel_model.specs.Families.NameMaking.{making, making_unless, text_error}
 use Rattle.kernel_model.specs.Families.NameMeaning.{NameOutcome, Refuses, LeadsOut, Changes, outcome_of}
@@ -73,6 +72,7 @@ use Rattle.kernel_model.proofs.PairCalls.{absent, create_holds, number}
 use Rattle.kernel_model.proofs.SocketCalls.{receive_holds}
 use Rattle.kernel_model.proofs.ThreadCalls.{left_holds, made_holds}
 use Rattle.kernel_model.proofs.Threading.{waits_if_same}
+use Rattle.kernel_model.proofs.LockCalls.{signal_holds, unlock_holds}
 use Rattle.kernel_model.proofs.Polls.{poll_holds}
 use Rattle.kernel_model.proofs.Tests.{none_is_no}
 use Rattle.kernel_model.proofs.Touches.{end_is}
@@ -441,7 +441,8 @@ child_keeps S p own there v can kind before is =
 keeps : (call : Call) → Keeps call
 keeps (call.ClockResGet clock) constants S who table nearly = tt
 keeps (call.ClockTimeGet clock precision) constants S who table nearly = tt
-keeps (call.CondvarSignal condvar word scope n) constants S who table nearly = tt
+keeps (call.CondvarSignal condvar word scope n) constants S who table nearly =
+    signal_holds (λ (o : Outcome). AllKeep S o.updates) who.pid condvar n (get S.processes who.pid) (λ _. tt) (λ own there. (tt, tt))
 keeps (call.FdClose fd) constants S who table nearly = (tt, tt)
 keeps (call.FdCreate1 kind) constants S who table nearly = tt
 keeps (call.FdCreate2 kind) constants S who table nearly = create_keeps S who.pid who.tid table (made_of kind) nearly
@@ -474,11 +475,14 @@ keeps (call.FileStatGet lookup path) constants S who table nearly = file_keeps (
 keeps (call.FileStatPut lookup path stat flags) constants S who table nearly = file_keeps (call.FileStatPut lookup path stat flags) lookup.fd refl constants S who table nearly
 keeps (call.FileSymlink text fd path) constants S who table nearly = named_keep S who.pid (making_unless (text_error text) (making (Link text) path)).new_nodes (get S.processes who.pid) _
 keeps (call.FileUnlink fd path flags) constants S who table nearly = named_keep S who.pid 0 (get S.processes who.pid) _
-keeps (call.LockUnlock lock word scope) constants S who table nearly = tt
+keeps (call.LockUnlock lock word scope) constants S who table nearly =
+    unlock_holds (λ (o : Outcome). AllKeep S o.updates) who.pid who.tid lock word (get S.processes who.pid) tt (λ own new there. (tt, tt))
 keeps (call.MemMap place length prot flags fd offset) constants S who table nearly = map_keeps place length prot flags fd offset constants S who table nearly
 keeps (call.Memory number errno) constants S who table nearly = tt
 keeps (call.Poll subscriptions) constants S who table nearly =
-    poll_holds (λ (o : Outcome). AllKeep S o.updates) tt (λ event more. tt) tt subscriptions constants (whole S) who table
+    poll_holds (λ (o : Outcome). AllKeep S o.updates)
+    (record { told = λ event more. tt; tells = λ userdata what errno writes. tt; waits = λ writes awake. tt; sleeps = λ p condvar lock own. (tt, tt) })
+    subscriptions constants (whole S) who table
 keeps (call.ProcExec fd bytes fds) constants S who table nearly =
     exec_at_holds constants.key who.pid who.tid (listed table fds) (whole S) (λ (o : Outcome). AllKeep S o.updates) (λ errno here other. tt) (get table fd)
     (λ x node own is program there. (tt, (tt, tt)))
@@ -498,8 +502,8 @@ keeps (call.SockShutdown fd how) constants S who table nearly =
 keeps (call.ThreadCreate attributes) constants S who table nearly =
     made_holds (λ (o : Outcome). AllKeep S o.updates) who.pid who.tid (get S.processes who.pid) tt (λ own _ _. (tt, tt))
 keeps (call.ThreadExit lock word scope) constants S who table nearly =
-    left_holds (λ (o : Outcome). AllKeep S o.updates) who.pid who.tid (get S.processes who.pid) lock (unlocked who.tid word) tt
-    (λ new _. (tt, (tt, (tt, tt)))) (λ new own _ _. (tt, tt))
+    left_holds (λ (o : Outcome). AllKeep S o.updates) who.pid who.tid lock word (get S.processes who.pid) tt
+    (λ own new _ _ _. (tt, (tt, (tt, tt)))) (λ own new _ _ _. (tt, tt))
 keeps call.ThreadYield constants S who table nearly = tt
 keeps (call.Refused number errno) constants S who table nearly = tt
 keeps (call.Unknown number) constants S who table nearly = tt
@@ -515,7 +519,7 @@ outcome_keeps constants S who call nearly =
 pub opens_stay : OpensStayOfWhatTheyAre
 opens_stay constants S who call given T valid (inl done) =
     let set : OpensStay S (unreleased constants S who call) =
-    waits_if_same (OpensStay S) (step_answer constants S who call) who (waiting constants call who.since)
+    waits_if_same (OpensStay S) (step_answer constants S who call) who (waiting constants call who (S.clock + 1000))
     (put_all (outcome constants S who call).updates (tick S)) (λ stay. stay)
     (all_kept S (outcome constants S who call).updates (tick S) (opens_stay_here S) (outcome_keeps constants S who call valid.nearly)) in
     subst (OpensStay S) (sym done.1) (released_stay S (unreleased constants S who call) set)

@@ -14,7 +14,7 @@ use Rattle.maps.specs.Maps.{get-insert-same, get-insert-other, get-remove-same, 
 use Rattle.tree_model.specs.Entries.{here_or_other}
 use Rattle.kernel_model.specs.Families.Numbers.{made_more}
 use Rattle.kernel_model.specs.OwnChanges.{drawn_more, next_thread, with_next_thread, without_thread}
-use Rattle.kernel_model.specs.State.{State, ProcessState, Threads, counts_in, locks_in, no_locks, put_one, set_process, thread_in, thread_of, threads_of}
+use Rattle.kernel_model.specs.State.{State, ProcessState, Threads, counts_in, put_one, set_process, thread_in, thread_of, threads_of}
 use Rattle.kernel_model.specs.Valid.{HasBehind, IsNearlyValid}
 use Rattle.kernel_model.specs.Waits.{MayWait}
 use Rattle.kernel_model.proofs.Children.{all_born, one_keeps, KeepsChildren}
@@ -22,7 +22,7 @@ use Rattle.kernel_model.proofs.Tests.{none_is_no, not_true, same_some}
 use Rattle.kernel_model.proofs.Valids.{some_again}
 
 -- What a process may become: each of its threads was there, or runs and is numbered; it has none where it had none; it has numbered and
--- made no less, and no fewer children; and the same wait in it.
+-- made no less, and no fewer children.
 pub record Grows (own new : ProcessState) : Type 0 where
   pub threads : (t : ℕ) (thread : Thread) → get new.threads t ≡ Some thread
       → (get own.threads t ≡ Some thread) ⊎ ((thread ≡ Runnable) × (t ≤ new.counts.threads))
@@ -30,13 +30,12 @@ pub record Grows (own new : ProcessState) : Type 0 where
   pub numbered : own.counts.threads ≤ new.counts.threads
   pub more : own.counts.objects ≤ new.counts.objects
   pub children : KeepsChildren (Some own) (Some new)
-  pub locks : new.locks ≡ own.locks
 
 pub more_grows : (count : ℕ) (own : ProcessState) → Grows own (made_more count own)
-more_grows count own = record { threads = λ t thread there. inl there; none = λ none. none; numbered = omega arith; more = omega arith; children = (refl, omega arith); locks = refl }
+more_grows count own = record { threads = λ t thread there. inl there; none = λ none. none; numbered = omega arith; more = omega arith; children = (refl, omega arith) }
 
 pub drawn_grows : (words : ℕ) (own : ProcessState) → Grows own (drawn_more words own)
-drawn_grows words own = record { threads = λ t thread there. inl there; none = λ none. none; numbered = omega arith; more = omega arith; children = (refl, omega arith); locks = refl }
+drawn_grows words own = record { threads = λ t thread there. inl there; none = λ none. none; numbered = omega arith; more = omega arith; children = (refl, omega arith) }
 
 -- a process that has a thread may have one more
 one_more : (own : ProcessState) (t : ℕ) (thread : Thread) → get (with_next_thread own).threads t ≡ Some thread
@@ -58,7 +57,6 @@ thread_grows own t there = record {
   numbered = omega arith;
   more = omega arith;
   children = (refl, omega arith);
-  locks = refl;
 }
 
 -- and so may one that has one less
@@ -76,7 +74,6 @@ ended_grows own t = record {
   numbered = omega arith;
   more = omega arith;
   children = (refl, omega arith);
-  locks = refl;
 } where
   removed_empty : (u : ℕ) → get (remove (empty {X = Thread} {R = nat_cmp}) t) u ≡ get (empty {X = Thread} {R = nat_cmp}) u
   removed_empty u =
@@ -195,6 +192,4 @@ module _ (S : State) (p : ℕ) (own new : ProcessState) (there : get S.processes
     channels = v.channels;
     made_channels = λ q k small beyond fits.
         v.made_channels q k small (let more = more_made q in omega (arith, more, beyond)) fits;
-    nobody = λ q. here_or_other (λ k. locks_in (get after.processes k) ≡ no_locks) p q
-        (ap locks_in here ∙ grows.locks ∙ sym (ap locks_in there) ∙ v.nobody p) (λ apart. ap locks_in (other q apart) ∙ v.nobody q);
   }

@@ -152,5 +152,4 @@ module _ (S : State) (v : IsNearlyValid S) (chans : FinMap nat_cmp Channel) (a b
           | inl before ↦ opens_joined S.opens both_opens S.chans names_kept ends_kept v.channels c channel before
           | inr new ↦ new
         ];
-    nobody = v.nobody;
   }

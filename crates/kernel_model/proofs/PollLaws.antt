@@ -4,6 +4,7 @@
 --     poll_has_soonest      its deadline
 use Rattle.std.proofs.Common.{◌≡◌, ◌⊎◌, inl, inr, ℕ, ◌+◌, ◌^◌, ◌<◌, ◌≤◌, true, false, min, not, List, [], ◌∷◌, ◌++◌, Option, Some, None, refl, sym, ap, subst, ◌∙◌, arith}
 use Rattle.std.proofs.Math.Nat.{min-le_left, min-le_right}
+use Rattle.std.specs.Prelude.{if◌then◌else◌}
 use Rattle.std.specs.FinMap.{get}
 use Rattle.abi_structures.specs.declared.events.Event.{Event}
 use Rattle.abi_structures.specs.declared.events.Subscription.{Subscription}
@@ -15,7 +16,7 @@ use Rattle.abi_types.specs.declared.reply.Answer.TheVariants as answer
 use Rattle.abi_types.specs.declared.reply.WordWrites.TheVariants.{Zero}
 use Rattle.abi_types.specs.declared.who.Who.{Who}
 use Rattle.kernel_model.specs.Calls.{meaning_of}
-use Rattle.kernel_model.specs.Deadlines.{soon}
+use Rattle.kernel_model.specs.Deadlines.{is_due, soon}
 use Rattle.kernel_model.specs.Families.Polls.{begins_with_lock, deadline_in, events_now, events_reply, poll_by, sooner, soonest, told_or_waits}
 use Rattle.kernel_model.specs.Families.WaitCalls.{clock_deadline}
 use Rattle.kernel_model.specs.Outcome.{Outcome, is_parked}
@@ -24,8 +25,8 @@ use Rattle.kernel_model.specs.Proper.{IsIn}
 use Rattle.kernel_model.specs.State.{State, Table}
 use Rattle.kernel_model.specs.Step.{outcome_on, step_answer, tick, unless}
 use Rattle.kernel_model.specs.View.{View, whole}
-use Rattle.kernel_model.specs.Waits.{resumed}
-use Rattle.kernel_model.specs.Wakes.{is_done_now}
+use Rattle.kernel_model.specs.Waits.{resumed, WaitsIn}
+use Rattle.kernel_model.specs.Wakes.{goes_on_at, is_done_now, is_ready}
 use Rattle.kernel_model.proofs.Deadlines.{soon_is}
 use Rattle.kernel_model.proofs.Lists.{in_more}
 use Rattle.kernel_model.proofs.Outcomes.{outcome_of_table}
@@ -33,7 +34,7 @@ use Rattle.kernel_model.proofs.PollEvents.{events_told, none_is_lost, none_is_mo
 use Rattle.kernel_model.proofs.PollTimes.{come_is, not_soon}
 use Rattle.kernel_model.proofs.Polls.{are_absent, parked_events, sooner_is}
 use Rattle.kernel_model.proofs.Reaches.{all_met}
-use Rattle.kernel_model.proofs.Readiness.{is_ready_where, ready_is}
+use Rattle.kernel_model.proofs.Readiness.{ready_is}
 use Rattle.kernel_model.proofs.Tests.{none_is_no, not_true, same_some}
 
 -- ---- what it answers
@@ -130,18 +131,25 @@ told_some : (events : List Event) (event : Event) → IsIn event events → not 
 told_some [] event here = absurd (none_here event here)
 told_some (first ∷ events) event here = refl
 
+-- a thread that waits in one goes on once it would be done
+ready_done : (constants : Constants) (S : State) (who : Who) (table : Table) (subscriptions : List Subscription) → IsPoll S who table subscriptions
+    → WaitsIn S who (Poll subscriptions) → is_ready constants S who.pid who.tid ≡ is_done_now constants S who (Poll subscriptions)
+ready_done constants S who table subscriptions is kept =
+    ready_is constants S who (Poll subscriptions) kept
+    ∙ ap (λ b. if (poll_by b subscriptions).by_stage then goes_on_at kept.1 (is_due S.clock kept.0) else is_done_now constants S who (Poll subscriptions)) is.plain
+
 pub poll_ready_where : PollReadyWhere
 poll_ready_where constants S who table subscriptions is kept early =
     let events = told_then constants S who table subscriptions is early in
     let told = are_told_then constants S who table subscriptions is early in
     let done = done_is constants S who table subscriptions is early in (
       λ ready. (
-          let first = some_told events (sym done ∙ ready_is constants S who (Poll subscriptions) kept ready) in
+          let first = some_told events (sym done ∙ sym (ready_done constants S who table subscriptions is kept) ∙ ready) in
           let its = none_is_more constants S table who.since S.clock subscriptions events first.0 told first.1 in
           (its.0, its.1, its.2)),
       λ some. (
           let its = none_is_lost constants S table who.since S.clock subscriptions events some.0 told some.1 some.2 in
-          is_ready_where constants S who (Poll subscriptions) kept (done ∙ told_some events its.0 its.1)),
+          ready_done constants S who table subscriptions is kept ∙ done ∙ told_some events its.0 its.1),
     )
 
 -- ---- its deadline

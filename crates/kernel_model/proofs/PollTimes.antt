@@ -26,7 +26,7 @@ use Rattle.kernel_model.specs.Waits.{resumed}
 use Rattle.kernel_model.specs.Wakes.{is_done_now}
 use Rattle.kernel_model.proofs.Deadlines.{due_at, soon_is, soon_kept}
 use Rattle.kernel_model.proofs.Outcomes.{outcome_of_table}
-use Rattle.kernel_model.proofs.Readiness.{is_ready_where, ready_is}
+use Rattle.kernel_model.proofs.Readiness.{ready_is}
 use Rattle.kernel_model.proofs.Tests.{none_is_no, not_true, same_some}
 
 -- ---- the moment of a time
@@ -152,6 +152,6 @@ poll_is_ready constants S who userdata clock timeout precision flags there kept 
     let call = clock_call userdata clock timeout precision flags in
     let comes = come_is constants who.since clock timeout flags S.clock in
     let is = done_now constants S who userdata clock timeout precision flags there in (
-      λ ready. comes.1 (due_only d S.clock (sym is ∙ ready_is constants S who call kept ready)),
-      λ come. is_ready_where constants S who call kept (is ∙ due_where d S.clock (comes.0 come) early),
+      λ ready. comes.1 (due_only d S.clock (sym is ∙ sym (ready_is constants S who call kept) ∙ ready)),
+      λ come. ready_is constants S who call kept ∙ is ∙ due_where d S.clock (comes.0 come) early,
     )

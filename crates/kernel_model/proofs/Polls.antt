@@ -1,5 +1,5 @@
 -- The meaning of each poll is proper.
---     told_holds, poll_holds, poll_errors      what holds of each outcome of a poll, and of its errors
+--     told_holds, poll_holds, poll_errors      what holds of each outcome of a poll, and that it has no errors of its own
 --     parked_events, absent_and      it waits where no subscription has an event
 --     events_seen      the events are the same by what it sees alone
 --     sooner_is, due_of_sooner, due_events      where the soonest deadline has come there is an event
@@ -10,7 +10,6 @@ use Rattle.std.proofs.lemmas.Bool.{eq-eqb, ltb-false, ltb-true}
 use Rattle.std.specs.Prelude.{nat_lt, if◌then◌else◌}
 use Rattle.std.specs.FinMap.{get}
 use Rattle.abi_base.specs.declared.errno.Errno.{Errno}
-use Rattle.abi_base.specs.declared.errno.Errno.TheVariants.{Nosys}
 use Rattle.abi_structures.specs.declared.events.Event.{Event}
 use Rattle.abi_structures.specs.declared.events.EventType.TheVariants as type
 use Rattle.abi_structures.specs.declared.events.Subscription.{Subscription}
@@ -21,24 +20,26 @@ use Rattle.abi_types.specs.declared.descriptor.Descriptor.{Descriptor}
 use Rattle.abi_types.specs.declared.needed.Needed.{Needed}
 use Rattle.abi_types.specs.declared.open_kind.OpenKind.{OpenKind}
 use Rattle.abi_types.specs.declared.open_kind.OpenKind.TheVariants.{File, Directory, End, Terminal, Process}
+use Rattle.abi_types.specs.declared.reply.Answer.TheVariants as answer
+use Rattle.abi_types.specs.declared.reply.WordWrites.{WordWrites}
 use Rattle.abi_types.specs.declared.reply.WordWrites.TheVariants.{Zero}
 use Rattle.abi_types.specs.declared.who.Who.{Who}
 use Rattle.kernel_model.specs.Deadlines.{is_due, soon}
 use Rattle.kernel_model.specs.Families.FileMeaning.{open_of}
-use Rattle.kernel_model.specs.Families.Polls.{and_event, begins_with_lock, bytes_event, deadline_in, end_event, event_now, event_of, events_now, events_reply, has_come, has_no_reader, has_no_writer, poll, poll_by, read_event, reading_event, sooner, soonest, terminate_event, told_or_waits, write_event, writing_event}
+use Rattle.kernel_model.specs.Families.LockCalls.{sleeps_in, tells}
+use Rattle.kernel_model.specs.Families.Polls.{and_event, begins_with_lock, bytes_event, deadline_in, end_event, event_now, event_of, events_now, events_poll, events_reply, has_come, has_no_reader, has_no_writer, lock_poll_of, poll, poll_by, read_event, reading_event, sooner, soonest, terminate_event, told_or_waits, write_event, writing_event}
 use Rattle.kernel_model.specs.Families.WaitCalls.{clock_deadline, fds_of, wait_row, wait_rows}
-use Rattle.kernel_model.specs.Meaning.{Meaning}
 use Rattle.kernel_model.specs.Outcome.{Outcome, is_parked, parks, replies}
-use Rattle.kernel_model.specs.OwnChanges.{LeavesOwn, keeps_own}
-use Rattle.kernel_model.specs.Proper.{IsDeniedOutside, IsPatient, IsProper, IsUnset, OrWaits, AllCarryOn}
-use Rattle.kernel_model.specs.Reply.{refused}
+use Rattle.kernel_model.specs.OwnChanges.{LeavesOwn, begins_to_sleep, keeps_own}
+use Rattle.kernel_model.specs.Proper.{IsDeniedOutside, IsPatient, IsProper, IsUnset, OrWaits, AllCarryOn, nothing_set}
 use Rattle.kernel_model.specs.Sight.{behind, channel_part, process_parts, reached, reached_by}
-use Rattle.kernel_model.specs.State.{Part, State, Table, at_chan, at_open, at_proc, at_status, has_part, put_all}
+use Rattle.kernel_model.specs.State.{Part, ProcessState, State, Table, at_chan, at_open, at_proc, at_status, has_part, put_all}
 use Rattle.kernel_model.specs.Step.{tick}
 use Rattle.kernel_model.specs.Valid.{IsNearlyValid}
 use Rattle.kernel_model.specs.View.{View, only, restrict, whole}
 use Rattle.kernel_model.proofs.Answering.{each_row_is_proper}
 use Rattle.kernel_model.proofs.Deadlines.{due_later}
+use Rattle.kernel_model.proofs.LockPolls.{lock_poll_is_proper, rows_of, waited_holds}
 use Rattle.kernel_model.proofs.Parts.{has_left, has_right, own_stays}
 use Rattle.kernel_model.proofs.Tests.{not_true}
 
@@ -259,33 +260,19 @@ module _ (constants : Constants) (v : View) (since : ℕ) (table : Table) where
 
 -- ---- polls that are built
 
--- the meaning with what each poll needs
-abbrev rows_poll : Bool → List Subscription → Meaning
-rows_poll lock subscriptions =
-    record (poll_by lock subscriptions) {
-      named = fds_of (wait_rows subscriptions);
-      need = wait_rows subscriptions;
-      seen = fds_of (wait_rows subscriptions);
-      outside = λ v table. None;
-      touched = λ S table. [];
-      numbers = 0;
-      own = keeps_own;
-      sends = [];
-    }
-
-poll_is_patient : (subscriptions : List Subscription) → IsPatient (rows_poll false subscriptions)
-poll_is_patient subscriptions = record {
+events_poll_is_patient : (subscriptions : List Subscription) → IsPatient (rows_of (events_poll subscriptions) subscriptions)
+events_poll_is_patient subscriptions = record {
   patient = λ constants v who table before earlier waits.
       parked_events (events_now constants (record v { clock = before }) who.since table subscriptions)
       ∙ events_earlier constants v who.since table before subscriptions earlier
       (sym (parked_events (events_now constants v who.since table subscriptions)) ∙ waits);
-  due = λ constants v who table come.
+  due = λ _ constants v who table come.
       parked_events (events_now constants v who.since table subscriptions) ∙ due_events constants v who.since table subscriptions come;
   inside = λ v table. refl;
   keeps = refl;
 }
 
-events_poll_is_proper : (subscriptions : List Subscription) → IsProper (rows_poll false subscriptions)
+events_poll_is_proper : (subscriptions : List Subscription) → IsProper (rows_of (events_poll subscriptions) subscriptions)
 events_poll_is_proper subscriptions = record {
   names = (each_row_is_proper (wait_rows subscriptions)).names;
   sees = (each_row_is_proper (wait_rows subscriptions)).sees;
@@ -298,9 +285,9 @@ events_poll_is_proper subscriptions = record {
       told_holds (λ o. IsUnset o part) (events_now constants (whole (tick S)) who.since table subscriptions) (λ event more. refl) refl;
   touched = λ S table part h. absurd (not_true h);
   plain = λ constants v who table.
-      told_holds (λ o. OrWaits true o (IsDeniedOutside [] None o)) (events_now constants v who.since table subscriptions)
-      (λ event more. inr (refl, inl refl)) (inl (refl, refl));
-  waits = λ _. poll_is_patient subscriptions;
+      told_holds (λ o. OrWaits true who.pid (v.process who.pid) o (IsDeniedOutside [] None o)) (events_now constants v who.since table subscriptions)
+      (λ event more. inr (refl, inl refl)) (inl (refl, nothing_set refl refl));
+  waits = λ _. events_poll_is_patient subscriptions;
   lacks = λ _. tt;
   others = λ constants v who table q apart _.
       told_holds (λ o. IsUnset o (at_proc q) × IsUnset o (at_status q)) (events_now constants v who.since table subscriptions)
@@ -317,32 +304,47 @@ events_poll_is_proper subscriptions = record {
 
 -- ---- poll
 
-rows_poll_is_proper : (lock : Bool) (subscriptions : List Subscription) → IsProper (rows_poll lock subscriptions)
-rows_poll_is_proper true subscriptions = each_row_is_proper (wait_rows subscriptions)
-rows_poll_is_proper false subscriptions = events_poll_is_proper subscriptions
+poll_by_is_proper : (lock : Bool) (subscriptions : List Subscription) → IsProper (rows_of (poll_by lock subscriptions) subscriptions)
+poll_by_is_proper true [] = events_poll_is_proper []
+poll_by_is_proper true (first ∷ rest) = lock_poll_is_proper first rest
+poll_by_is_proper false subscriptions = events_poll_is_proper subscriptions
 
 pub poll_is_proper : (subscriptions : List Subscription) → IsProper (poll subscriptions)
-poll_is_proper subscriptions = rows_poll_is_proper (begins_with_lock subscriptions) subscriptions
+poll_is_proper subscriptions = poll_by_is_proper (begins_with_lock subscriptions) subscriptions
 
 -- ---- what holds of each poll
 
-by_holds : (P : Outcome → Type 0) → P (replies (refused Nosys)) → ((event : Event) (more : List Event) → P (replies (events_reply (event ∷ more))))
-    → P (parks Zero) → (lock : Bool) (subscriptions : List Subscription) (constants : Constants) (v : View) (who : Who) (table : Table)
-    → P ((poll_by lock subscriptions).effect constants v who table)
-by_holds P unbuilt told waits true subscriptions constants v who table = unbuilt
-by_holds P unbuilt told waits false subscriptions constants v who table =
-    told_holds P (events_now constants v who.since table subscriptions) told waits
+-- what a poll may come to: events are told, or one is with words written; the thread waits with words written, or it begins to wait at a
+-- condition variable
+pub record HoldsOfPolls (P : Outcome → Type 0) : Type 0 where
+  pub told : (event : Event) (more : List Event) → P (replies (events_reply (event ∷ more)))
+  pub tells : (userdata : ℕ) (what : What) (errno : Errno) (writes : WordWrites) → P (tells userdata what errno writes)
+  pub waits : (writes : WordWrites) → begins_to_sleep (answer.Parked writes) ≡ false → P (parks writes)
+  pub sleeps : (p condvar lock : ℕ) (own : ProcessState) → P (sleeps_in p condvar lock (Some own))
 
-pub poll_holds : (P : Outcome → Type 0) → P (replies (refused Nosys)) → ((event : Event) (more : List Event) → P (replies (events_reply (event ∷ more))))
-    → P (parks Zero) → (subscriptions : List Subscription) (constants : Constants) (v : View) (who : Who) (table : Table)
+lock_holds : (P : Outcome → Type 0) → HoldsOfPolls P → (subscriptions : List Subscription) (constants : Constants) (v : View) (who : Who) (table : Table)
+    → P ((lock_poll_of subscriptions).effect constants v who table)
+lock_holds P holds [] constants v who table = holds.waits Zero refl
+lock_holds P holds (first ∷ rest) constants v who table =
+    waited_holds P first.userdata first.what who.pid who.tid who.stage (v.process who.pid) (holds.tells first.userdata first.what) holds.waits
+    (λ condvar _ lock _ _ _ own _ _. holds.sleeps who.pid condvar lock own)
+
+by_holds : (P : Outcome → Type 0) → HoldsOfPolls P → (lock : Bool) (subscriptions : List Subscription) (constants : Constants) (v : View) (who : Who)
+    (table : Table) → P ((poll_by lock subscriptions).effect constants v who table)
+by_holds P holds true subscriptions constants v who table = lock_holds P holds subscriptions constants v who table
+by_holds P holds false subscriptions constants v who table =
+    told_holds P (events_now constants v who.since table subscriptions) holds.told (holds.waits Zero refl)
+
+pub poll_holds : (P : Outcome → Type 0) → HoldsOfPolls P → (subscriptions : List Subscription) (constants : Constants) (v : View) (who : Who) (table : Table)
     → P ((poll subscriptions).effect constants v who table)
-poll_holds P unbuilt told waits subscriptions constants v who table =
-    by_holds P unbuilt told waits (begins_with_lock subscriptions) subscriptions constants v who table
+poll_holds P holds subscriptions constants v who table =
+    by_holds P holds (begins_with_lock subscriptions) subscriptions constants v who table
 
--- what holds of its errors
-by_errors : (P : List Errno → Type 0) → P (Nosys ∷ []) → P [] → (lock : Bool) (subscriptions : List Subscription) → P (poll_by lock subscriptions).errors
-by_errors P unbuilt built true subscriptions = unbuilt
-by_errors P unbuilt built false subscriptions = built
+-- it has no errors of its own
+by_errors : (lock : Bool) (subscriptions : List Subscription) → (poll_by lock subscriptions).errors ≡ []
+by_errors true [] = refl
+by_errors true (first ∷ rest) = refl
+by_errors false subscriptions = refl
 
-pub poll_errors : (P : List Errno → Type 0) → P (Nosys ∷ []) → P [] → (subscriptions : List Subscription) → P (poll subscriptions).errors
-poll_errors P unbuilt built subscriptions = by_errors P unbuilt built (begins_with_lock subscriptions) subscriptions
+pub poll_errors : (subscriptions : List Subscription) → (poll subscriptions).errors ≡ []
+poll_errors subscriptions = by_errors (begins_with_lock subscriptions) subscriptions

@@ -17,7 +17,7 @@ use Rattle.kernel_model.specs.Proper.{AllCarryOn, IsIn, IsPlain, IsProper, IsUns
 use Rattle.kernel_model.specs.Reply.{refused, success}
 use Rattle.kernel_model.specs.Sight.{process_parts}
 use Rattle.kernel_model.specs.Valid.{IsNearlyValid}
-use Rattle.kernel_model.specs.State.{State, ProcessState, Part, no_locks, put_all, at_clock, at_proc, at_status, same_part, has_part, part_of}
+use Rattle.kernel_model.specs.State.{State, ProcessState, Part, put_all, at_clock, at_proc, at_status, same_part, has_part, part_of}
 use Rattle.kernel_model.proofs.Parts.{outside_cons, beyond_process, number_apart, own_stays}
 use Rattle.kernel_model.proofs.Sights.{first_seen}
 use Rattle.kernel_model.proofs.Tests.{not_true}
@@ -56,7 +56,7 @@ ended_live statuses p code live = exit_is_not_live code (sym (get-insert-same st
 ended_same : (f : ProcessState → ProcessState) → ((own : ProcessState) → (f own).counts ≡ own.counts) → ((own : ProcessState) → (f own).depth ≡ own.depth)
     → (o : Option ProcessState) → ended_process o ≡ ended_process (option_map f o)
 ended_same f counts depth None = refl
-ended_same f counts depth (Some own) = λ i. record { threads = empty; counts = sym (counts own) i; locks = no_locks; depth = sym (depth own) i }
+ended_same f counts depth (Some own) = λ i. record { threads = empty; counts = sym (counts own) i; depth = sym (depth own) i }
 
 pub ends_own : (f : ProcessState → ProcessState) → ((own : ProcessState) → (f own).counts ≡ own.counts) → ((own : ProcessState) → (f own).depth ≡ own.depth)
     → (p : ℕ) (processes : FinMap nat_cmp ProcessState)

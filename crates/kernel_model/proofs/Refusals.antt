@@ -1,6 +1,6 @@
 -- Why a call is refused: the denial of the first descriptor that lacks a right, that lack of memory stands in place of no
 -- error, and that an error changes nothing.
-use Rattle.std.proofs.Common.{◌≡◌, ◌≢◌, ◌⊎◌, ℕ, Bool, true, false, cond, T, List, [], Option, Some, None, IsSome, is_some, inl, inr, refl, sym, ap, subst, ◌∙◌}
+use Rattle.std.proofs.Common.{◌≡◌, ◌≢◌, ◌⊎◌, ℕ, ◌+◌, Bool, true, false, cond, T, List, [], Option, Some, None, IsSome, is_some, inl, inr, refl, sym, ap, subst, ◌∙◌}
 use Rattle.std.specs.List.{AllByRecursion}
 use Rattle.std.specs.FinMap.{get}
 use Rattle.abi_types.specs.declared.reply.Answer.{Answer}
@@ -107,7 +107,7 @@ outcome_from constants S who call =
     (λ table own unrefused.
     let o = (meaning_of call).effect constants (whole (tick S)) who table in
     let leads = (meaning_of call).outside (whole (tick S)) table in
-    waits_or_replies (may_wait call) o (IsDeniedOutside (errors_of call) leads o) (WhereReply (IsFrom S who call o) o.answer)
+    waits_or_replies (may_wait call) who.pid (get S.processes who.pid) o (IsDeniedOutside (errors_of call) leads o) (WhereReply (IsFrom S who call o) o.answer)
     ((proper call).plain constants (whole (tick S)) who table) (where_parked (IsFrom S who call o) o.answer)
     (own_from S who call o leads (outside_of_table S who call table own unrefused)))
 
@@ -356,7 +356,7 @@ sets_nothing_at_error constants S who call reply is other =
 failed_step : (constants : Constants) (S : State) (who : Who) (call : Call) (reply : Reply) → IsValid S → step_answer constants S who call ≡ answer.Reply reply
     → reply.errno ≢ Success → step_state constants S who call ≡ failed S who
 failed_step constants S who call reply valid is other =
-    ap (λ a. release (waits_if a who (waiting constants call who.since) (put_all (outcome constants S who call).updates (tick S)))) is
+    ap (λ a. release (waits_if a who (waiting constants call who (S.clock + 1000)) (put_all (outcome constants S who call).updates (tick S)))) is
     ∙ ap (λ us. release (put_all us (tick S))) (sets_nothing_at_error constants S who call reply is other) ∙ release_valid (tick S) (tick_valid S valid)
 
 pub error_keeps : (constants : Constants) (S : State) (who : Who) (call : Call) (reply : Reply) (T : State)

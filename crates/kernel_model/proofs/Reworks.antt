@@ -179,5 +179,4 @@ module _ (S : State) (n : ℕ) (node : Node) (u : Tree) (works : Reworks (tree_o
     waits = v.waits;
     channels = v.channels;
     made_channels = v.made_channels;
-    nobody = v.nobody;
   }

@@ -1,6 +1,6 @@
 -- How many sends a channel has had counts each send to it once, and nothing else.
 --     sends_are_counted, new_channels_have_none, ends_count_none, ends_make_none      the laws
-use Rattle.std.proofs.Common.{◌≡◌, ◌≢◌, ◌⊎◌, inl, inr, ℕ, suc, ◌<◌, Bool, true, false, cond, List, [], ◌∷◌, length, take, Option, None, Some, refl, sym, ap, subst, ◌∙◌, arith}
+use Rattle.std.proofs.Common.{◌≡◌, ◌≢◌, ◌⊎◌, inl, inr, ℕ, suc, ◌+◌, ◌<◌, Bool, true, false, cond, List, [], ◌∷◌, length, take, Option, None, Some, refl, sym, ap, subst, ◌∙◌, arith}
 use Rattle.std.proofs.lemmas.Bool.Decides.{eqb_tells}
 use Rattle.std.proofs.lemmas.List.{length-append}
 use Rattle.std.specs.FinMap.{get, insert}
@@ -48,7 +48,7 @@ use Rattle.kernel_model.proofs.Channels.{channel_released, was_channel}
 use Rattle.kernel_model.proofs.Outcomes.{outcome_holds}
 use Rattle.kernel_model.proofs.Parts.{put_keeps}
 use Rattle.kernel_model.proofs.Polls.{poll_errors}
-use Rattle.kernel_model.proofs.Readiness.{parking_keeps}
+use Rattle.kernel_model.proofs.Readiness.{parking_changes}
 use Rattle.kernel_model.proofs.Refusals.{error_keeps, refusal_is_other, same_reply, where_reply}
 use Rattle.kernel_model.proofs.Sending.{on_holds, send_holds, sends_to, succeeds_or}
 use Rattle.kernel_model.proofs.StreamCalls.{write_opens_well}
@@ -316,7 +316,7 @@ module _ (constants : Constants) (S : State) (who : Who) (table : Table) (nearly
       (mem_map_bare constants S who place size prot fd offset table (is_anonymous flags))
   others_count (calls.Memory number errno) none = counts_stay S
   others_count (calls.Refused number errno) none = counts_stay S
-  others_count (calls.Poll subscriptions) none = quiet (calls.Poll subscriptions) (poll_errors (λ errors. may_send errors ≡ false) refl refl subscriptions)
+  others_count (calls.Poll subscriptions) none = quiet (calls.Poll subscriptions) (ap may_send (poll_errors subscriptions))
   others_count (calls.FileSymlink text fd path) none =
       quiet (calls.FileSymlink text fd path) (symlink_silent (text_error text) (making (node_kind.Link text) path) refl)
   others_count other none = quiet other refl
@@ -454,7 +454,7 @@ step_counts : (constants : Constants) (S : State) (who : Who) (call : Call) (rep
 step_counts constants S who call reply T c was now valid (inl done) success before after =
     let U = unreleased constants S who call in
     let from = released_from U c now (ap (λ (V : State). get V.chans c) (sym done.1) ∙ after) in
-    let left = unparked (step_answer constants S who call) who (waiting constants call who.since)
+    let left = unparked (step_answer constants S who call) who (waiting constants call who (S.clock + 1000))
     (put_all (outcome constants S who call).updates (tick S)) c from.0 from.1 in
     elim (outcome_settles constants S who call c was from.0 before (tick_nearly_valid S valid.nearly) left) [
       | inl goes ↦ inl (puts_of S who call reply c success goes.0, from.2 ∙ goes.1)
@@ -492,7 +492,7 @@ pub new_channels_have_none : NewChannelsHaveNone
 new_channels_have_none constants S who call given T c now valid (inl done) before after =
     let U = unreleased constants S who call in
     let from = released_from U c now (ap (λ (V : State). get V.chans c) (sym done.1) ∙ after) in
-    let left = unparked (step_answer constants S who call) who (waiting constants call who.since)
+    let left = unparked (step_answer constants S who call) who (waiting constants call who (S.clock + 1000))
     (put_all (outcome constants S who call).updates (tick S)) c from.0 from.1 in
     from.2 ∙ outcome_new constants S who call (tick_nearly_valid S valid.nearly) c from.0 before left
 new_channels_have_none constants S who call given T c now valid (inr lacking) before after =
@@ -506,7 +506,7 @@ ends_make_none S p status c now before after =
 pub sends_are_counted : SendsAreCounted
 sends_are_counted constants S who call (answer.Parked writes) T c was now valid step before after = inr (
   λ puts. never puts.reply puts.replied,
-  counts_stay S c was now before (ap (λ (V : State). get V.chans c) (sym (parking_keeps constants S who call writes T step valid)) ∙ after),
+  counts_stay S c was now before (ap (λ (V : State). get V.chans c) (sym (parking_changes constants S who call writes T step valid).1) ∙ after),
 ) where
   never : (reply : Reply) → answer.Parked writes ≡ answer.Reply reply → ⊥
   never reply e = cc

@@ -1,7 +1,7 @@
 -- Channels go on through steps, and what is put into one is what a sock_send to it lists.
 --     goes_weaker, stays_so      what a send carries may be said otherwise; and a channel that stays goes on
 --     channels_go_on, ends_go_on      the laws
-use Rattle.std.proofs.Common.{◌≡◌, ◌≢◌, ◌⊎◌, inl, inr, ℕ, ◌<◌, min, Bool, true, false, cond, List, [], ◌∷◌, length, take, Option, None, Some, refl, sym, ap, subst, ◌∙◌, arith}
+use Rattle.std.proofs.Common.{◌≡◌, ◌≢◌, ◌⊎◌, inl, inr, ℕ, ◌+◌, ◌<◌, min, Bool, true, false, cond, List, [], ◌∷◌, length, take, Option, None, Some, refl, sym, ap, subst, ◌∙◌, arith}
 use Rattle.std.proofs.lemmas.Bool.Decides.{eqb_tells}
 use Rattle.std.specs.FinMap.{get, insert}
 use Rattle.std.specs.List.{AllByRecursion}
@@ -10,9 +10,10 @@ use Rattle.abi_base.specs.declared.errno.Errno.TheVariants.{Again, Badf, Notsock
 use Rattle.abi_types.specs.Families.{is_anonymous}
 use Rattle.abi_types.specs.declared.reply.Reply.{Reply}
 use Rattle.abi_types.specs.declared.reply.Answer.{Answer}
+use Rattle.abi_structures.specs.declared.events.Subscription.{Subscription}
 use Rattle.abi_types.specs.declared.reply.Answer.TheVariants as answer
 use Rattle.abi_types.specs.declared.call.Call.{Call}
-use Rattle.abi_types.specs.declared.call.Call.TheVariants.{MemMap, SockSend}
+use Rattle.abi_types.specs.declared.call.Call.TheVariants.{MemMap, Poll, SockSend}
 use Rattle.abi_types.specs.declared.constants.Constants.{Constants}
 use Rattle.abi_types.specs.declared.descriptor.Descriptor.{Descriptor}
 use Rattle.abi_types.specs.declared.open_kind.OpenKind.{OpenKind}
@@ -28,6 +29,7 @@ use Rattle.kernel_model.specs.Families.ChannelCalls.{is_nonblocking, picked, sen
 use Rattle.kernel_model.specs.Families.FileMeaning.{on_open}
 use Rattle.kernel_model.specs.Families.MemoryCalls.{map_row, map_zeros, mapping}
 use Rattle.kernel_model.specs.Families.OpenMeaning.{at_descriptor}
+use Rattle.kernel_model.specs.Families.Polls.{is_of_lock, poll, poll_by}
 use Rattle.kernel_model.specs.Meaning.{Meaning}
 use Rattle.kernel_model.specs.Outcome.{Outcome, parks, replies}
 use Rattle.kernel_model.specs.Proper.{CarriesOn, GoesOn, IsSentBy, Sender, adds, draws, empties, may_send}
@@ -42,7 +44,7 @@ use Rattle.kernel_model.proofs.Calls.{proper}
 use Rattle.kernel_model.proofs.ChannelChanges.{none_more}
 use Rattle.kernel_model.proofs.Channels.{channel_released, was_channel}
 use Rattle.kernel_model.proofs.Outcomes.{outcome_holds}
-use Rattle.kernel_model.proofs.Readiness.{parking_keeps}
+use Rattle.kernel_model.proofs.Readiness.{parking_changes}
 use Rattle.kernel_model.proofs.Refusals.{error_keeps}
 use Rattle.kernel_model.proofs.Touches.{end_is}
 use Rattle.kernel_model.proofs.Valids.{same_value, tick_nearly_valid}
@@ -220,6 +222,11 @@ sends_by : (b : Bool) (x y : Meaning) → x.sends ≡ [] → y.sends ≡ [] → 
 sends_by true x y one two = one
 sends_by false x y one two = two
 
+-- a poll sends nothing
+poll_sends_none : (subscriptions : List Subscription) → (poll subscriptions).sends ≡ []
+poll_sends_none [] = refl
+poll_sends_none (first ∷ rest) = elim (is_of_lock first.what) as (λ b. (poll_by b (first ∷ rest)).sends ≡ []) [ true ↦ refl | false ↦ refl ]
+
 -- what each call leaves, where it isn't refused
 effect_goes : (constants : Constants) (S : State) (who : Who) (call : Call) (table : Table) → IsNearlyValid (tick S)
     → get S.tables who.pid ≡ Some table → (meaning_of call).sends ≡ [] → GoOn (Adds S who call) S (put_all ((meaning_of call).effect constants (whole (tick S)) who table).updates (tick S))
@@ -237,6 +244,8 @@ call_goes constants S who (SockSend fd bytes fds flags) table nearly own = send_
 call_goes constants S who (MemMap place size prot flags fd offset) table nearly own =
     effect_goes constants S who (MemMap place size prot flags fd offset) table nearly own
     (sends_by (is_anonymous flags) (map_zeros place) (on_open (map_row fd prot) (mapping place size offset)) refl refl)
+call_goes constants S who (Poll subscriptions) table nearly own =
+    effect_goes constants S who (Poll subscriptions) table nearly own (poll_sends_none subscriptions)
 call_goes constants S who call table nearly own = effect_goes constants S who call table nearly own refl
 
 outcome_goes : (constants : Constants) (S : State) (who : Who) (call : Call) → IsNearlyValid (tick S)
@@ -258,7 +267,7 @@ step_goes constants S who call given T nearly (inl done) =
     let U = unreleased constants S who call in
     subst (GoOn (Adds S who call) S) (sym done.1)
     (released (Adds S who call) S U
-    (parked_goes (Adds S who call) S (step_answer constants S who call) who (waiting constants call who.since)
+    (parked_goes (Adds S who call) S (step_answer constants S who call) who (waiting constants call who (S.clock + 1000))
     (put_all (outcome constants S who call).updates (tick S)) (outcome_goes constants S who call nearly)))
 step_goes constants S who call given T nearly (inr lacking) = subst (GoOn (Adds S who call) S) (sym lacking.2) (stay (Adds S who call) S)
 
@@ -306,7 +315,7 @@ replied_goes constants S who call reply T valid step (inl success) =
 
 pub channels_go_on : ChannelsGoOn
 channels_go_on constants S who call (answer.Parked writes) T c now valid step there =
-    subst (GoOn (Answered S who call (answer.Parked writes)) S) (sym (parking_keeps constants S who call writes T step valid))
+    subst (GoOn (Answered S who call (answer.Parked writes)) S) (sym (parking_changes constants S who call writes T step valid).1)
     (stay (Answered S who call (answer.Parked writes)) S) c now there
 channels_go_on constants S who call (answer.Reply reply) T c now valid step there =
     replied_goes constants S who call reply T valid step (succeeds_or reply.errno) c now there

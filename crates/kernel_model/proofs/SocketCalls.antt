@@ -26,7 +26,7 @@ use Rattle.kernel_model.specs.Families.FileMeaning.{open_of}
 use Rattle.kernel_model.specs.Families.OpenMeaning.{at_descriptor}
 use Rattle.kernel_model.specs.Families.SocketCalls.{receiving, sending, shutting, sock_recv, sock_send, sock_shutdown}
 use Rattle.kernel_model.specs.Outcome.{Outcome, is_parked, parks, replies}
-use Rattle.kernel_model.specs.Proper.{AllCarryOn, CarriesOn, IsIn, IsPlain, IsProper, IsUnset, OrWaits, Sender}
+use Rattle.kernel_model.specs.Proper.{AllCarryOn, CarriesOn, IsIn, IsPlain, IsProper, IsUnset, OrWaits, Sender, nothing_set}
 use Rattle.kernel_model.specs.Reply.{refused, success}
 use Rattle.kernel_model.specs.Rows.{base_row}
 use Rattle.kernel_model.specs.Sight.{behind, channel_part, process_parts}
@@ -118,7 +118,7 @@ module _ (bytes : List ℕ) (carried : List Descriptor) where
   send_sees_well = record {
     reads = λ now S p o kind. send_open_reads S p o kind;
     seen = sent_seen;
-    plain = λ now v o kind. (send_open_ends v o kind).plain;
+    plain = λ now q own v o kind. (send_open_ends v o kind).plain q own;
     badf = send_badf;
     lacks = λ _. ((λ e. cc), ((λ e. cc), ((λ e. cc), ((λ e. cc), tt))));
     waits = λ _. record { patient = λ now before v clock o kind h. send_open_parks v clock kind h; keeps = refl };
@@ -155,12 +155,12 @@ sock_send_is_proper fd bytes fds = record {
       send_sets bytes (picked table fds) S (get table fd) part
       (beyond_process who.pid (open_part (get table fd) ++ sent_part (open_of (whole S) (get table fd))) part h).1;
   touched = λ S table part h. seen_descriptor (sending bytes []) (send_sees_well bytes []) S (get table fd) part h;
-  plain = λ constants v who table. plain_descriptor (sending bytes (picked table fds)) (send_sees_well bytes (picked table fds)) 0 v (get table fd);
+  plain = λ constants v who table. plain_descriptor (sending bytes (picked table fds)) (send_sees_well bytes (picked table fds)) 0 who.pid (v.process who.pid) v (get table fd);
   waits = λ _. record {
     patient = λ constants v who table before earlier waits.
         patient_descriptor (sending bytes (picked table fds)) (send_sees_well bytes (picked table fds))
         ((send_sees_well bytes (picked table fds)).waits refl) 0 0 v before (get table fd) waits;
-    due = λ constants v who table come. absurd (not_true come);
+    due = λ _ constants v who table come. absurd (not_true come);
     inside = λ v table. refl;
     keeps = refl;
   };
@@ -232,7 +232,6 @@ table_nearly_valid S p old new there lives named v = record {
   tree = v.tree;
   waits = v.waits;
   channels = v.channels;
-  nobody = v.nobody;
 } where
   all_named : (q n : ℕ) (table : Table) (d : Descriptor) → get (insert S.tables p new) q ≡ Some table → get table n ≡ Some d → IsNamed (get S.opens d.id) d
   all_named q n table d at here =
@@ -364,9 +363,9 @@ module _ (p : ℕ) (table : Table) (n room flags : ℕ) where
   receive_sees_well = record {
     reads = λ now S q o kind. receive_reads S q o kind;
     seen = received_seen;
-    plain = λ now v o kind.
-        receive_holds p table v n room flags (λ x. OrWaits true x (IsPlain receive_errors x)) (λ errno here. inr (refl, inr (refl, here)))
-        (inl (refl, refl)) (λ bytes. inr (refl, inl refl)) kind (λ c w mode channel installed is there made. inr (refl, inl refl));
+    plain = λ now q own v o kind.
+        receive_holds p table v n room flags (λ x. OrWaits true q own x (IsPlain receive_errors x)) (λ errno here. inr (refl, inr (refl, here)))
+        (inl (refl, nothing_set refl refl)) (λ bytes. inr (refl, inl refl)) kind (λ c w mode channel installed is there made. inr (refl, inl refl));
     badf = receive_badf;
     lacks = λ _. ((λ e. cc), ((λ e. cc), ((λ e. cc), ((λ e. cc), tt))));
     waits = λ _. record { patient = λ now before v clock o kind h. receive_parks v clock kind h; keeps = refl };
@@ -439,12 +438,12 @@ sock_recv_is_proper fd n room flags = record {
   sets = λ constants S who table part h. receive_sets who.pid table n room flags S (get table fd) part h;
   touched = λ S table part h. seen_descriptor (receiving 0 empty n room flags) (receive_sees_well 0 empty n room flags) S (get table fd) part h;
   plain = λ constants v who table.
-      plain_descriptor (receiving who.pid table n room flags) (receive_sees_well who.pid table n room flags) 0 v (get table fd);
+      plain_descriptor (receiving who.pid table n room flags) (receive_sees_well who.pid table n room flags) 0 who.pid (v.process who.pid) v (get table fd);
   waits = λ _. record {
     patient = λ constants v who table before earlier waits.
         patient_descriptor (receiving who.pid table n room flags) (receive_sees_well who.pid table n room flags)
         ((receive_sees_well who.pid table n room flags).waits refl) 0 0 v before (get table fd) waits;
-    due = λ constants v who table come. absurd (not_true come);
+    due = λ _ constants v who table come. absurd (not_true come);
     inside = λ v table. refl;
     keeps = refl;
   };
@@ -613,7 +612,7 @@ module _ (how : ℕ) where
     sees = record {
       reads = λ now S p o kind. shut_reads S p o kind;
       seen = both_seen;
-      plain = λ now v o kind. (shut_ends v o kind).plain;
+      plain = λ now p own v o kind. (shut_ends v o kind).plain;
       badf = shut_badf;
       lacks = λ h. absurd (not_true h);
       waits = λ h. absurd (not_true h);

@@ -26,7 +26,7 @@ use Rattle.tree_model.specs.Changes.{is_file_kind, is_file_node}
 use Rattle.tree_model.specs.declared.limits.TheConstants.{ROOT}
 use Rattle.tree_model.specs.Grants.{IsStartTree, IsGrant, IsGrantOf, AreGrants, HasRightsOfType, MayBegin, type_of_kind, type_of_node}
 use Rattle.kernel_model.specs.Start.{first_open, numbered, granted_descriptor, open_of, open_of_node, granted_open, granted_table, first_process, unwritten, start_state}
-use Rattle.kernel_model.specs.State.{State, Table, ProcessState, Tree, thread_in, thread_of, counts_in, locks_in, no_locks}
+use Rattle.kernel_model.specs.State.{State, Table, ProcessState, Tree, thread_in, thread_of, counts_in}
 use Rattle.kernel_model.specs.Families.Children.{IsBorn}
 use Rattle.kernel_model.specs.Families.Numbers.{object_of}
 use Rattle.kernel_model.specs.Fits.{HasRightsOf}
@@ -343,13 +343,6 @@ start_born p own there =
 same_keys_one : {X Y : Type 0} (x : X) (y : Y) (p : ℕ) → is_some (get (insert (empty {R = nat_cmp}) 0 x) p) ≡ is_some (get (insert (empty {R = nat_cmp}) 0 y) p)
 same_keys_one x y = same_keys_inserted empty empty 0 x y (λ q. ap is_some (get-empty nat_cmp q) ∙ sym (ap is_some (get-empty nat_cmp q)))
 
-start_nobody : (p : ℕ) → locks_in (get (insert (empty {R = nat_cmp}) 0 first_process) p) ≡ no_locks
-start_nobody p =
-    elim (eqb_tells p 0) [
-      | inl is ↦ ap (λ q. locks_in (get (insert (empty {R = nat_cmp}) 0 first_process) q)) is.1 ∙ ap locks_in (get-insert-same empty 0 first_process)
-      | inr other ↦ ap locks_in (get-insert-other empty 0 first_process p other.1 ∙ get-empty nat_cmp p)
-    ]
-
 pub start_valid : (tree : Tree) (grants : List Grant) (stdin : List ℕ) → MayBegin tree grants → IsValid (start_state tree grants stdin)
 start_valid tree grants stdin begins = record {
   nearly = record {
@@ -367,7 +360,6 @@ start_valid tree grants stdin begins = record {
     tree = begins.tree.tree;
     channels = λ c channel there. absurd (none_is_no channel (sym (get-empty nat_cmp c) ∙ there));
     made_channels = λ p k small beyond fits. get-empty nat_cmp (object_of p k);
-    nobody = start_nobody;
   };
   held = λ o there. held_or_carried (start_state tree grants stdin) o (start_held tree grants begins.grants o there);
   kept = λ n there. named_is_kept (start_state tree grants stdin) n (begins.tree.named n there);

@@ -39,7 +39,7 @@ use Rattle.kernel_model.proofs.Calls.{proper}
 use Rattle.kernel_model.proofs.Births.{fork_holds, next_is}
 use Rattle.kernel_model.proofs.Ends.{killed_by, process_after, process_spared, status_after, status_spared}
 use Rattle.kernel_model.proofs.Outcomes.{outcome_holds}
-use Rattle.kernel_model.proofs.Parking.{parks_only}
+use Rattle.kernel_model.proofs.Parking.{parks_only, sets_apart, waiting_may}
 use Rattle.kernel_model.proofs.Parts.{put_keeps}
 use Rattle.kernel_model.proofs.ProcessCalls.{end_others}
 use Rattle.kernel_model.proofs.Refusals.{sets_nothing_at_error}
@@ -59,12 +59,14 @@ outcome_valid constants S who call nearly =
     (λ table there. (proper call).valid constants (tick S) who table there nearly)
 
 -- where its thread waits it does in a call in which it may
-unreleased_valid : (constants : Constants) (S : State) (who : Who) (call : Call) → IsNearlyValid (tick S) → IsNearlyValid (unreleased constants S who call)
+pub unreleased_valid : (constants : Constants) (S : State) (who : Who) (call : Call) → IsNearlyValid (tick S) → IsNearlyValid (unreleased constants S who call)
 unreleased_valid constants S who call nearly =
     let after = put_all (outcome constants S who call).updates (tick S) in
     let set : IsNearlyValid after = outcome_valid constants S who call nearly in
-    waits_if_holds IsNearlyValid (step_answer constants S who call) who (waiting constants call who.since) after
-    (λ parked. with_nearly_valid after who.pid who.tid (waiting constants call who.since) (parks_only constants S who call parked).may set) set
+    waits_if_holds IsNearlyValid (step_answer constants S who call) who (waiting constants call who (S.clock + 1000)) after
+    (λ parked.
+    with_nearly_valid after who.pid who.tid (waiting constants call who (S.clock + 1000))
+    (waiting_may constants call who (S.clock + 1000) (parks_only constants S who call parked).may) set) set
 
 step_valid : (constants : Constants) (S : State) (who : Who) (call : Call) → IsValid S → IsValid (step_state constants S who call)
 step_valid constants S who call v =
@@ -91,7 +93,7 @@ put_clock (u ∷ us) S = put_clock us (put_one u S) ∙ put_one_clock u S
 
 unreleased_clock : (constants : Constants) (S : State) (who : Who) (call : Call) → (unreleased constants S who call).clock ≡ S.clock + 1000
 unreleased_clock constants S who call =
-    waits_if_same (λ U. U.clock ≡ S.clock + 1000) (step_answer constants S who call) who (waiting constants call who.since)
+    waits_if_same (λ U. U.clock ≡ S.clock + 1000) (step_answer constants S who call) who (waiting constants call who (S.clock + 1000))
     (put_all (outcome constants S who call).updates (tick S)) (λ same. same) (put_clock (outcome constants S who call).updates (tick S))
 
 -- ---- other processes
@@ -134,11 +136,14 @@ IsUnborn S who call given q = child_made call given who.pid (get S.processes who
 success_is_done : (errno : Errno) → is_success errno ≡ false → errno ≢ Success
 success_is_done errno isnt is = not_true (sym isnt ∙ ap is_success is)
 
--- a call that is not done sets nothing
+-- a call that is not done sets nothing that another process has
 undone_sets : (constants : Constants) (S : State) (who : Who) (call : Call) (given : Answer) → step_answer constants S who call ≡ given
-    → is_done given ≡ false → (outcome constants S who call).updates ≡ []
-undone_sets constants S who call (answer.Parked writes) is isnt = (parks_only constants S who call (ap is_parked is)).unset
-undone_sets constants S who call (answer.Reply reply) is isnt = sets_nothing_at_error constants S who call reply is (success_is_done reply.errno isnt)
+    → is_done given ≡ false → (q : ℕ) → q ≢ who.pid → IsUnset (outcome constants S who call) (at_proc q) × IsUnset (outcome constants S who call) (at_status q)
+undone_sets constants S who call (answer.Parked writes) is isnt q apart =
+    sets_apart who.pid (get S.processes who.pid) (outcome constants S who call) q apart (parks_only constants S who call (ap is_parked is)).sets
+undone_sets constants S who call (answer.Reply reply) is isnt q apart =
+    let none = sets_nothing_at_error constants S who call reply is (success_is_done reply.errno isnt) in
+    (ap (λ us. has_part (map part_of us) (at_proc q)) none, ap (λ us. has_part (map part_of us) (at_status q)) none)
 
 outcome_unset : (constants : Constants) (S : State) (who : Who) (call : Call) (q : ℕ) → q ≢ who.pid → IsUnborn S who call (step_answer constants S who call) q
     → IsUnset (outcome constants S who call) (at_proc q) × IsUnset (outcome constants S who call) (at_status q)
@@ -146,9 +151,7 @@ outcome_unset constants S who call q apart unborn =
     let a = step_answer constants S who call in
     elim (is_done a) as (λ b. is_done a ≡ b → IsUnset (outcome constants S who call) (at_proc q) × IsUnset (outcome constants S who call) (at_status q)) [
       | true ↦ λ done. outcome_others constants S who call q apart (λ is. unborn (child_is call a who.pid (get S.processes who.pid) done ∙ is))
-      | false ↦ λ isnt. (
-          let none = undone_sets constants S who call a refl isnt in
-          (ap (λ us. has_part (map part_of us) (at_proc q)) none, ap (λ us. has_part (map part_of us) (at_status q)) none))
+      | false ↦ λ isnt. undone_sets constants S who call a refl isnt q apart
     ] refl
 
 unreleased_others : (constants : Constants) (S : State) (who : Who) (call : Call) (q : ℕ) → q ≢ who.pid → IsUnborn S who call (step_answer constants S who call) q
@@ -158,7 +161,7 @@ unreleased_others constants S who call q apart unborn =
     let unset = outcome_unset constants S who call q apart unborn in
     let same = put_others (outcome constants S who call).updates (tick S) q unset.0 unset.1 in
     let a = step_answer constants S who call in
-    let thread = waiting constants call who.since in (
+    let thread = waiting constants call who (S.clock + 1000) in (
       waits_if_same (λ U. get U.tables q ≡ get S.tables q) a who thread after (λ h. h) same.0,
       waits_apart a who thread after q apart ∙ same.1,
       waits_if_same (λ U. get U.statuses q ≡ get S.statuses q) a who thread after (λ h. h) same.2,
@@ -250,7 +253,7 @@ born_runs constants S who (call.ProcFork left) q born t =
     let c = call.ProcFork left in
     let a = step_answer constants S who c in
     let U = unreleased constants S who c in
-    let new = waits_if_holds (IsNewborn who.tid q) a who (waiting constants c who.since) (put_all (outcome constants S who c).updates (tick S))
+    let new = waits_if_holds (IsNewborn who.tid q) a who (waiting constants c who (S.clock + 1000)) (put_all (outcome constants S who c).updates (tick S))
     (λ parked. absurd (parked_bears a who.pid (get S.processes who.pid) q parked born)) (fork_bears constants S who left q born) in
     let after = process_after U (ends U) q ∙ ap (option_map (process_left (is_killed U (ends U) q))) new.1 in
     let at = ap (λ (o : Option ProcessState). thread_in (option_map (λ (own : ProcessState). own.threads) o) t) after in
@@ -301,7 +304,7 @@ pub step_keeps_made : (constants : Constants) (S : State) (who : Who) (call : Ca
 step_keeps_made constants S who call given T q (inl done) made =
     subst (λ U. IsMade U q) (sym done.1)
     (release_made (unreleased constants S who call) q (
-    waits_if_same (λ U. IsMade U q) (step_answer constants S who call) who (waiting constants call who.since)
+    waits_if_same (λ U. IsMade U q) (step_answer constants S who call) who (waiting constants call who (S.clock + 1000))
     (put_all (outcome constants S who call).updates (tick S)) (λ there. there) (put_made (outcome constants S who call).updates (tick S) q made)))
 step_keeps_made constants S who call given T q (inr lacking) made = subst (λ U. IsMade U q) (sym lacking.2) made
 
@@ -316,7 +319,7 @@ outcome_own : (constants : Constants) (S : State) (who : Who) (call : Call)
     → LeavesOwn (meaning_of call).own who.pid who.tid (step_answer constants S who call) (tick S) (put_all (outcome constants S who call).updates (tick S))
 outcome_own constants S who call =
     outcome_holds (λ o. LeavesOwn (meaning_of call).own who.pid who.tid o.answer (tick S) (put_all o.updates (tick S))) constants S who call
-    (λ reply refuses. inl (undone_stays (meaning_of call).own who.tid (answer.Reply reply) (refusal_of_fails call (get S.tables who.pid) reply refuses)
+    (λ reply refuses. inl (undone_stays (meaning_of call).own who.tid (answer.Reply reply) (refusal_of_fails call (get S.tables who.pid) reply refuses) refl
     (get S.processes who.pid)))
     (λ table _. (proper call).own constants (tick S) who table)
 
@@ -341,7 +344,7 @@ step_leaves : (constants : Constants) (S : State) (who : Who) (call : Call) → 
     → LeavesThreads constants S who call (step_answer constants S who call) (step_state constants S who call)
 step_leaves constants S who call live =
     let a = step_answer constants S who call in
-    let thread = waiting constants call who.since in
+    let thread = waiting constants call who (S.clock + 1000) in
     let after = put_all (outcome constants S who call).updates (tick S) in
     let both = released_threads (unreleased constants S who call) who.pid live in
     let lives : get after.statuses who.pid ≡ Some Live =
@@ -355,7 +358,7 @@ step_counts : (constants : Constants) (S : State) (who : Who) (call : Call)
     → LeavesCounts call (step_answer constants S who call) (counts_in (get S.processes who.pid)) (counts_in (get (step_state constants S who call).processes who.pid))
 step_counts constants S who call =
     let a = step_answer constants S who call in
-    let thread = waiting constants call who.since in
+    let thread = waiting constants call who (S.clock + 1000) in
     let after = put_all (outcome constants S who call).updates (tick S) in
     let waits : counts_in (get (unreleased constants S who call).processes who.pid) ≡ counts_in (get after.processes who.pid) =
     waits_if_same (λ U. counts_in (get U.processes who.pid) ≡ counts_in (get after.processes who.pid)) a who thread after
@@ -367,7 +370,7 @@ step_counts constants S who call =
 lacking_own : (S : State) (who : Who) (call : Call) → IsOwnAfter S who call (answer.Reply (refused Nomem)) (tick S)
 lacking_own S who call = (
   undone_allows (meaning_of call).own who.tid (answer.Reply (refused Nomem)) (get S.processes who.pid) refl,
-  undone_stays (meaning_of call).own who.tid (answer.Reply (refused Nomem)) refl (get S.processes who.pid),
+  undone_stays (meaning_of call).own who.tid (answer.Reply (refused Nomem)) refl refl (get S.processes who.pid),
 )
 
 -- ---- all of them

@@ -21,7 +21,7 @@ use Rattle.kernel_model.specs.Outcome.{Outcome, is_parked, replies}
 use Rattle.kernel_model.specs.Proper.{AllCarryOn, CarriesOn, IsIn, IsPlain, IsProper, IsUnset, OrWaits, Sender, may_send}
 use Rattle.kernel_model.specs.Reply.{content, refused, success}
 use Rattle.kernel_model.specs.Sight.{behind}
-use Rattle.kernel_model.specs.State.{State, Table, Tree, tree_of, Part, Update, at_node, at_open, at_term, same_part, has_part, part_of, put_all, put_one, set_node, set_open, set_term}
+use Rattle.kernel_model.specs.State.{ProcessState, State, Table, Tree, tree_of, Part, Update, at_node, at_open, at_term, same_part, has_part, part_of, put_all, put_one, set_node, set_open, set_term}
 use Rattle.kernel_model.specs.Families.StreamCalls.{fd_read, fd_seek, fd_write, read_open, read_term, reading, seek_open, seeking, stream_part, write_open, write_term, writing, written_part}
 use Rattle.kernel_model.specs.Families.TreeUpdates.{node_update}
 use Rattle.kernel_model.specs.Valid.{IsNearlyValid}
@@ -42,7 +42,7 @@ use Rattle.kernel_model.proofs.Valids.{IsSameBehind, set_open_nearly_valid, set_
 record Fine (errors : List Errno) (may_wait : Bool) (touched : List Part) (v : View) (o : ℕ) (kind : Option OpenKind) (outcome : Outcome) : Type 0 where
   apart : AreOfNoProcess outcome.updates
   sets : (q : Part) → has_part (at_open o ∷ touched) q ≡ false → IsUnset outcome q
-  plain : OrWaits may_wait outcome (IsPlain errors outcome)
+  plain : (p : ℕ) (own : Option ProcessState) → OrWaits may_wait p own outcome (IsPlain errors outcome)
   carries : (S : State) → whole S ≡ v → (table : Table) → AllCarryOn S (table, [], may_send errors) outcome
   valid : (S : State) → whole S ≡ v → get S.opens o ≡ kind → IsNearlyValid S → IsNearlyValid (put_all outcome.updates S)
 
@@ -56,7 +56,7 @@ module _ (errors : List Errno) (may_wait : Bool) (touched : List Part) (v : View
       record {
         apart = tt;
         sets = λ q h. refl;
-        plain = or_waits may_wait (replies (refused errno)) (IsPlain errors (replies (refused errno))) (refl, inr (refl, here));
+        plain = λ p own. or_waits may_wait p own (replies (refused errno)) (IsPlain errors (replies (refused errno))) (refl, inr (refl, here));
         carries = λ S seen table. tt;
         valid = λ S seen there nearly. nearly;
       }
@@ -66,16 +66,16 @@ module _ (errors : List Errno) (may_wait : Bool) (touched : List Part) (v : View
       record {
         apart = tt;
         sets = λ q h. refl;
-        plain = or_waits may_wait (replies reply) (IsPlain errors (replies reply)) (plain, inl success);
+        plain = λ p own. or_waits may_wait p own (replies reply) (IsPlain errors (replies reply)) (plain, inl success);
         carries = λ S seen table. tt;
         valid = λ S seen there nearly. nearly;
       }
 
 -- one that is done is plain
 done_plainly : (errors : List Errno) (may_wait : Bool) (reply : Reply) (updates : List Update) → reply.denial ≡ None → reply.errno ≡ Success
-    → OrWaits may_wait (done reply updates) (IsPlain errors (done reply updates))
-done_plainly errors may_wait reply updates plain success =
-    or_waits may_wait (done reply updates) (IsPlain errors (done reply updates)) (plain, inl success)
+    → (p : ℕ) (own : Option ProcessState) → OrWaits may_wait p own (done reply updates) (IsPlain errors (done reply updates))
+done_plainly errors may_wait reply updates plain success p own =
+    or_waits may_wait p own (done reply updates) (IsPlain errors (done reply updates)) (plain, inl success)
 
 -- the offset of a file that is open
 same_with_offset : (node old new flags : ℕ) → IsSameBehind (File node old flags) (File node new flags)
@@ -150,7 +150,7 @@ fine_opens_well : (m : OpenMeaning)
     → ((S : State) (kind : Option OpenKind) (q : Part) → has_part (m.touched kind) q ≡ true → has_part (behind S kind) q ≡ true)
     → IsIn Badf m.errors → (m.takes_memory ≡ true → AllByRecursion (λ errno. errno ≢ Nomem) m.errors) → (m.may_wait ≡ true → WaitsWell m) → OpensWell m
 fine_opens_well m reads fine seen badf lacks waits = record {
-  sees = record { reads = reads; seen = seen; plain = λ now v o kind. (fine now v o kind).plain; badf = badf; lacks = lacks; waits = waits };
+  sees = record { reads = reads; seen = seen; plain = λ now p own v o kind. (fine now v o kind).plain p own; badf = badf; lacks = lacks; waits = waits };
   apart = λ now v o kind. (fine now v o kind).apart;
   sets = λ now v o kind. (fine now v o kind).sets;
   carries = λ now S o kind table. (fine now (whole S) o kind).carries S refl table;

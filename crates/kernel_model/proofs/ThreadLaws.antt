@@ -29,8 +29,9 @@ use Rattle.fd_table.specs.Table.{Table}
 use Rattle.maps.specs.Maps.{get-insert-same, get-remove-same, get-remove-other, same_numbers, passes, least_key, least_key-entry, least_key-none}
 use Rattle.kernel_model.specs.Calls.{meaning_of, takes_memory}
 use Rattle.kernel_model.specs.Families.ClockCalls.{can_draw, drawn_by, drawn_if, is_real, random_reply, time_of}
-use Rattle.kernel_model.specs.Families.LockWords.{holding_of_low, read_by, unheld, unlocked, unlocked_as, written_by}
-use Rattle.kernel_model.specs.Families.ProcessCalls.{can_make_thread, end_updates, has_next_number, is_last_thread, left_with, made_if, made_in, most_threads}
+use Rattle.kernel_model.specs.Families.LockWords.{holding_of_low, read_by, unheld, written_by}
+use Rattle.kernel_model.specs.Families.Locks.{hands_on, leaves, refuses, release_as, release_of, released_word, unlocked_own}
+use Rattle.kernel_model.specs.Families.ProcessCalls.{can_make_thread, end_updates, has_next_number, is_last_thread, left_in, left_with, made_if, made_in, most_threads}
 use Rattle.kernel_model.specs.Outcome.{Outcome, replies}
 use Rattle.kernel_model.specs.OwnChanges.{drawn_more, is_success, next_thread, with_next_thread, without_thread}
 use Rattle.kernel_model.specs.PollLaws.{shown}
@@ -40,24 +41,24 @@ use Rattle.kernel_model.specs.State.{ProcessState, State, Threads, counts_in, pu
 use Rattle.kernel_model.specs.Step.{outcome, step_answer, step_state, tick, IsStep}
 use Rattle.kernel_model.specs.Threads.{ends_caller, first_result, makes_thread, next_number}
 use Rattle.kernel_model.specs.ThreadLaws.{with_own, ClocksShow, ExitEndsOne, ExitLetsGo, IsCaller, IsDrawn, IsThreadMade, LocksAreLetGo, OnlyAnswers, RandomHangsOnPlace, RandomIsDrawn, RandomIsGiven, ThreadIsMade, ThreadsAreFew}
-use Rattle.kernel_model.specs.Valid.{IsValid}
+use Rattle.kernel_model.specs.Valid.{IsNearlyValid, IsValid}
 use Rattle.kernel_model.specs.View.{whole}
 use Rattle.kernel_model.specs.Waits.{waiting, waits_if}
 use Rattle.kernel_model.proofs.ClockCalls.{drawn_holds}
-use Rattle.kernel_model.proofs.OwnChanges.{drawn_grows, ended_grows, set_process_nearly_valid, thread_grows, Grows}
+use Rattle.kernel_model.proofs.OwnChanges.{drawn_grows, set_process_nearly_valid, thread_grows, Grows}
 use Rattle.kernel_model.proofs.Outcomes.{outcome_holds, outcome_of_table}
 use Rattle.kernel_model.proofs.ProcessCalls.{ended_live}
 use Rattle.kernel_model.proofs.Refusals.{same_reply}
 use Rattle.kernel_model.proofs.Steps.{released_threads}
 use Rattle.kernel_model.proofs.Tests.{not_true, same_some}
-use Rattle.kernel_model.proofs.ThreadCalls.{left_holds, made_holds}
+use Rattle.kernel_model.proofs.ThreadCalls.{last_unlocked, left_holds, left_nearly_valid, made_holds}
 use Rattle.kernel_model.proofs.Threads.{refusal_of_fails}
 use Rattle.kernel_model.proofs.Valids.{release_valid, tick_nearly_valid, tick_valid}
 
 -- ---- the state after an outcome
 
 abbrev pub state_of : Constants → State → Who → Call → Outcome → State
-state_of constants S who call o = release (waits_if o.answer who (waiting constants call who.since) (put_all o.updates (tick S)))
+state_of constants S who call o = release (waits_if o.answer who (waiting constants call who (S.clock + 1000)) (put_all o.updates (tick S)))
 
 -- what an outcome comes to that is a success
 abbrev pub Comes : (Reply → State → Type 0) → Constants → State → Who → Call → Outcome → Type 0
@@ -88,16 +89,15 @@ step_comes P constants S who call reply T comes (inl done) success =
 step_comes P constants S who call reply T comes (inr lacking) success = fails Nomem reply refl lacking.1 success
 
 -- nothing is released where one process of a valid state has changed alone
+left_alone : (S : State) (p : ℕ) (new : ProcessState) → IsNearlyValid (put_one (set_process p new) (tick S)) → IsValid S
+    → release (put_one (set_process p new) (tick S)) ≡ with_own S p new
+left_alone S p new nearly valid =
+    release_valid (put_one (set_process p new) (tick S)) (record { nearly = nearly; held = valid.held; kept = valid.kept; going = valid.going })
+
 own_left : (S : State) (p : ℕ) (own new : ProcessState) → get S.processes p ≡ Some own → Grows own new → IsValid S
     → release (put_one (set_process p new) (tick S)) ≡ with_own S p new
 own_left S p own new there grows valid =
-    release_valid (put_one (set_process p new) (tick S))
-    (record {
-      nearly = set_process_nearly_valid (tick S) p own new there grows (tick_nearly_valid S valid.nearly);
-      held = valid.held;
-      kept = valid.kept;
-      going = valid.going;
-    })
+    left_alone S p new (set_process_nearly_valid (tick S) p own new there grows (tick_nearly_valid S valid.nearly)) valid
 
 the_table : (o : Option Table) → IsSome o → (table : Table) × (o ≡ Some table)
 the_table None there = absurd (not_true there)
@@ -193,28 +193,28 @@ create_number constants S who _ given T step makes = absurd (not_true makes)
 
 -- ---- the words of locks
 
-low_is : (low : ℕ) (t word : ℕ) → word % 2 ^ 31 ≡ low → unlocked t word ≡ unlocked_as t word (holding_of_low low)
-low_is low t word is = ap (λ n. unlocked_as t word (holding_of_low n)) is
+low_is : (low : ℕ) (t word : ℕ) → word % 2 ^ 31 ≡ low → release_of t word ≡ release_as t word (holding_of_low low)
+low_is low t word is = ap (λ n. release_as t word (holding_of_low n)) is
 
-written : (t word low owner : ℕ) → word % 2 ^ 31 ≡ low → low ≡ 2 ^ 30 + owner → unlocked t word ≡ (if owner == t then Some 0 else None)
+written : (t word low owner : ℕ) → word % 2 ^ 31 ≡ low → low ≡ 2 ^ 30 + owner → release_of t word ≡ (if owner == t then hands_on else refuses)
 written t word low owner is low_of =
     low_is low t word is
     ∙ elim (eqb_tells low 0) [
       | inl zero ↦ (let none : low ≡ 0 = zero.1 in absurd (omega (arith, none, low_of)))
-      | inr some ↦ ap (λ b. unlocked_as t word (if b then unheld else if nat_lt low (2 ^ 30) then read_by low else written_by (low - 2 ^ 30))) some.0
-          ∙ ap (λ b. unlocked_as t word (if b then read_by low else written_by (low - 2 ^ 30))) (le-ltb low (2 ^ 30) (omega (arith, low_of)))
-          ∙ ap (λ n. unlocked_as t word (written_by n)) owned
+      | inr some ↦ ap (λ b. release_as t word (if b then unheld else if nat_lt low (2 ^ 30) then read_by low else written_by (low - 2 ^ 30))) some.0
+          ∙ ap (λ b. release_as t word (if b then read_by low else written_by (low - 2 ^ 30))) (le-ltb low (2 ^ 30) (omega (arith, low_of)))
+          ∙ ap (λ n. release_as t word (written_by n)) owned
     ] where
       owned : low - 2 ^ 30 ≡ owner
       owned = omega (arith, low_of)
 
-read : (t word low : ℕ) → word % 2 ^ 31 ≡ low → 0 < low → low < 2 ^ 30 → unlocked t word ≡ (if nat_lt 1 low then Some (word - 1) else Some 0)
+read : (t word low : ℕ) → word % 2 ^ 31 ≡ low → 0 < low → low < 2 ^ 30 → release_of t word ≡ (if nat_lt 1 low then leaves (word - 1) else hands_on)
 read t word low is some few =
     low_is low t word is
     ∙ elim (eqb_tells low 0) [
       | inl zero ↦ (let none : low ≡ 0 = zero.1 in absurd (omega (arith, none, some)))
-      | inr apart ↦ ap (λ b. unlocked_as t word (if b then unheld else if nat_lt low (2 ^ 30) then read_by low else written_by (low - 2 ^ 30))) apart.0
-          ∙ ap (λ b. unlocked_as t word (if b then read_by low else written_by (low - 2 ^ 30))) (lt-ltb low (2 ^ 30) few)
+      | inr apart ↦ ap (λ b. release_as t word (if b then unheld else if nat_lt low (2 ^ 30) then read_by low else written_by (low - 2 ^ 30))) apart.0
+          ∙ ap (λ b. release_as t word (if b then read_by low else written_by (low - 2 ^ 30))) (lt-ltb low (2 ^ 30) few)
     ]
 
 not_same : (a b : ℕ) → a ≢ b → (a == b) ≡ false
@@ -225,31 +225,37 @@ locks_are_let_go = record {
   free = λ t high. low_is 0 t (high * 2 ^ 31) (omega arith);
   other = λ t high owner small apart.
       written t (high * 2 ^ 31 + 2 ^ 30 + owner) (2 ^ 30 + owner) owner (omega (arith, small)) refl
-      ∙ ap (λ b. if b then Some 0 else None) (not_same owner t apart);
+      ∙ ap (λ b. if b then hands_on else refuses) (not_same owner t apart);
   writer = λ t high small.
-      written t (high * 2 ^ 31 + 2 ^ 30 + t) (2 ^ 30 + t) t (omega (arith, small)) refl ∙ ap (λ b. if b then Some 0 else None) (eq-eqb t t refl);
+      written t (high * 2 ^ 31 + 2 ^ 30 + t) (2 ^ 30 + t) t (omega (arith, small)) refl ∙ ap (λ b. if b then hands_on else refuses) (eq-eqb t t refl);
   readers = λ t high readers many few.
       read t (high * 2 ^ 31 + readers) readers (omega (arith, few)) (omega (arith, many)) few
-      ∙ ap (λ b. if b then Some (high * 2 ^ 31 + readers - 1) else Some 0) (lt-ltb 1 readers many) ∙ ap Some (omega (arith, many));
+      ∙ ap (λ b. if b then leaves (high * 2 ^ 31 + readers - 1) else hands_on) (lt-ltb 1 readers many) ∙ ap leaves (omega (arith, many));
   reader = λ t high. read t (high * 2 ^ 31 + 1) 1 (omega arith) (omega arith) (omega arith);
 }
 
 -- ---- thread_exit
 
 exit_is : (constants : Constants) (S : State) (who : Who) (lock word scope : ℕ) → IsSome (get S.tables who.pid)
-    → outcome constants S who (ThreadExit lock word scope) ≡ left_with who.pid who.tid (get S.processes who.pid) lock (unlocked who.tid word)
+    → outcome constants S who (ThreadExit lock word scope) ≡ left_in who.pid who.tid lock word (get S.processes who.pid)
 exit_is constants S who lock word scope has =
     let table = the_table (get S.tables who.pid) has in
     outcome_of_table constants S who (ThreadExit lock word scope) table.0 table.1
 
+exit_refused : (p t lock word : ℕ) (o : Option ProcessState) → release_of t word ≡ refuses → (left_in p t lock word o).answer ≡ answer.Reply (refused Perm)
+exit_refused p t lock word None may_not = refl
+exit_refused p t lock word (Some own) may_not =
+    ap (λ r. (left_with p t (Some (unlocked_own lock word t own)) lock (released_word r lock own.threads)).answer) may_not
+
 pub exit_lets_go : ExitLetsGo
 exit_lets_go = record {
   refused = λ constants S who lock word scope has may_not.
-      ap (λ (o : Outcome). o.answer) (exit_is constants S who lock word scope has
-      ∙ ap (left_with who.pid who.tid (get S.processes who.pid) lock) may_not);
-  writes = λ constants S who lock word scope new has may.
-      ap (λ (o : Outcome). o.answer) (exit_is constants S who lock word scope has
-      ∙ ap (left_with who.pid who.tid (get S.processes who.pid) lock) may);
+      ap (λ (o : Outcome). o.answer) (exit_is constants S who lock word scope has)
+      ∙ exit_refused who.pid who.tid lock word (get S.processes who.pid) may_not;
+  writes = λ constants S who lock word scope new own has there may.
+      ap (λ (o : Outcome). o.answer) (exit_is constants S who lock word scope has)
+      ∙ ap (λ o. (left_in who.pid who.tid lock word o).answer) there
+      ∙ ap (λ w. (left_with who.pid who.tid (Some (unlocked_own lock word who.tid own)) lock w).answer) may;
 }
 
 -- a thread that is there beside another is not the last, and one beside which none is there is
@@ -279,23 +285,27 @@ exits_is constants S who table there =
 pub exit_ends_one : ExitEndsOne
 exit_ends_one = record {
   one = λ constants S who lock word scope reply T own t valid step success there apart other.
-      let P : Reply → State → Type 0 = λ _ U. U ≡ with_own S who.pid (record own { threads = remove own.threads who.tid }) in
+      let left : ProcessState → ProcessState = λ x. without_thread who.tid (unlocked_own lock word who.tid x) in
+      let P : Reply → State → Type 0 = λ _ U. U ≡ with_own S who.pid (left own) in
       step_comes P constants S who (ThreadExit lock word scope) reply T
-      (λ table. left_holds (Comes P constants S who (ThreadExit lock word scope)) who.pid who.tid (get S.processes who.pid) lock (unlocked who.tid word)
+      (λ table. left_holds (Comes P constants S who (ThreadExit lock word scope)) who.pid who.tid lock word (get S.processes who.pid)
       (λ given is done. fails Perm given refl is done)
-      (λ new last given is done. absurd (not_true (sym (not_last own who.tid t apart other) ∙ last own there)))
-      (λ new x here _ given is done.
-      own_left S who.pid x (without_thread who.tid x) here (ended_grows x who.tid) valid
-      ∙ ap (λ y. with_own S who.pid (without_thread who.tid y)) (same_some x own (sym here ∙ there)))) step success;
+      (λ new x here _ last given is done. absurd (not_true (
+      sym (not_last own who.tid t apart other) ∙ ap (is_last_thread who.tid) (same_some own x (sym there ∙ here))
+      ∙ sym (last_unlocked lock word who.tid x) ∙ last)))
+      (λ new x here _ _ given is done.
+      left_alone S who.pid (left x) (left_nearly_valid (tick S) who.pid who.tid lock word x here (tick_nearly_valid S valid.nearly)) valid
+      ∙ ap (λ y. with_own S who.pid (left y)) (same_some x own (sym here ∙ there)))) step success;
   last = λ constants S who lock word scope reply T own valid step success there none.
       let P : Reply → State → Type 0 = λ _ U. U ≡ step_state constants S who (ProcExit 0) in
       let table = table_of S who.pid own valid there in
       step_comes P constants S who (ThreadExit lock word scope) reply T
-      (λ _. left_holds (Comes P constants S who (ThreadExit lock word scope)) who.pid who.tid (get S.processes who.pid) lock (unlocked who.tid word)
+      (λ _. left_holds (Comes P constants S who (ThreadExit lock word scope)) who.pid who.tid lock word (get S.processes who.pid)
       (λ given is done. fails Perm given refl is done)
-      (λ new last given is done. sym (exits_is constants S who table.0 table.1))
-      (λ new x here lasts given is done.
-      absurd (not_true (sym lasts ∙ ap (is_last_thread who.tid) (same_some x own (sym here ∙ there)) ∙ is_last own who.tid none)))) step success;
+      (λ new x here _ _ given is done. sym (exits_is constants S who table.0 table.1))
+      (λ new x here _ lasts given is done.
+      absurd (not_true (sym lasts ∙ last_unlocked lock word who.tid x ∙ ap (is_last_thread who.tid) (same_some x own (sym here ∙ there))
+      ∙ is_last own who.tid none)))) step success;
 }
 
 -- some key of a map that isn't empty
@@ -319,17 +329,18 @@ exit_leaves_one constants S who (ThreadExit lock word scope) (answer.Reply reply
     let P : Reply → State → Type 0 =
     λ _ U. get U.statuses who.pid ≡ Some Live → (t : ℕ) × (thread : Thread) × (thread_of U who.pid t ≡ Some thread) in
     step_comes P constants S who (ThreadExit lock word scope) reply T
-    (λ _. left_holds (Comes P constants S who (ThreadExit lock word scope)) who.pid who.tid (get S.processes who.pid) lock (unlocked who.tid word)
+    (λ _. left_holds (Comes P constants S who (ThreadExit lock word scope)) who.pid who.tid lock word (get S.processes who.pid)
     (λ given is done. fails Perm given refl is done)
-    (λ new last given is done lives.
+    (λ new own _ _ last given is done lives.
     absurd (ended_live S.statuses who.pid 0 (released_threads (put_all (end_updates who.pid (get S.processes who.pid) (Exit 0)) (tick S)) who.pid lives).0))
-    (λ new own there more given is done lives. (
-    let one = some_key (remove own.threads who.tid) more in
-    let same = (released_threads (put_one (set_process who.pid (without_thread who.tid own)) (tick S)) who.pid lives).1 in (
+    (λ new own there _ more given is done lives. (
+    let unlocked : ProcessState = unlocked_own lock word who.tid own in
+    let one = some_key (remove unlocked.threads who.tid) more in
+    let same = (released_threads (put_one (set_process who.pid (without_thread who.tid unlocked)) (tick S)) who.pid lives).1 in (
       one.0,
       one.1,
       ap (λ o. thread_in o one.0) same
-          ∙ ap (λ o. thread_in (option_map (λ (x : ProcessState). x.threads) o) one.0) (get-insert-same S.processes who.pid (without_thread who.tid own)) ∙ one.2,
+          ∙ ap (λ o. thread_in (option_map (λ (x : ProcessState). x.threads) o) one.0) (get-insert-same S.processes who.pid (without_thread who.tid unlocked)) ∙ one.2,
     )))) step (success_is reply.errno ends) live
 exit_leaves_one constants S who _ given T step ends live = absurd (not_true ends)
 

@@ -21,7 +21,7 @@ use Rattle.abi_types.specs.declared.who.Who.{Who}
 use Rattle.maps.specs.Maps.{get-insert-same, get-insert-other, same_around}
 use Rattle.maps.specs.Closure.{changed, changed-empty, get-changed}
 use Rattle.kernel_model.specs.Outcome.{is_parked}
-use Rattle.kernel_model.specs.State.{State, Threads, ProcessState, Part, at_proc, same_part, Agree, thread_in, thread_of, counts_in, locks_in}
+use Rattle.kernel_model.specs.State.{State, Threads, ProcessState, Part, at_proc, same_part, Agree, thread_in, thread_of, counts_in}
 use Rattle.kernel_model.specs.Valid.{IsNearlyValid, IsValid}
 use Rattle.kernel_model.specs.Waits.{thread_set, with_thread, waits_if, MayWait}
 use Rattle.kernel_model.proofs.Children.{all_born, same_keeps, KeepsChildren}
@@ -55,11 +55,6 @@ counts_where : (b : Bool) (t : ℕ) (thread : Thread) (o : Option ProcessState) 
 counts_where b t thread None = refl
 counts_where true t thread (Some own) = refl
 counts_where false t thread (Some own) = refl
-
-locks_where : (b : Bool) (t : ℕ) (thread : Thread) (o : Option ProcessState) → locks_in (option_map (set_where b t thread) o) ≡ locks_in o
-locks_where b t thread None = refl
-locks_where true t thread (Some own) = refl
-locks_where false t thread (Some own) = refl
 
 children_where : (b : Bool) (t : ℕ) (thread : Thread) (o : Option ProcessState) → KeepsChildren o (option_map (set_where b t thread) o)
 children_where b t thread None = tt
@@ -164,7 +159,6 @@ module _ (S : State) (p t : ℕ) (thread : Thread) where
     waits = each_thread MayWait may v.waits;
     channels = v.channels;
     made_channels = λ q k small beyond fits. v.made_channels q k small (subst (λ (c : Counts). c.objects < k) (with_counts q) beyond) fits;
-    nobody = λ q. ap locks_in (with_processes q) ∙ locks_where (q == p) t thread (get S.processes q) ∙ v.nobody q;
   }
 
   pub with_valid : MayWait (Some thread) → IsValid S → IsValid (with_thread S p t thread)

@@ -1,5 +1,5 @@
 -- A call changes nothing outside what it touches and what the release after it ends.
-use Rattle.std.proofs.Common.{◌≡◌, ◌≢◌, ◌||◌, inl, inr, ℕ, Bool, true, false, not, cond, T, [], ◌∷◌, ◌++◌, map, Option, Some, None, refl, sym, ap, subst, ◌∙◌, arith}
+use Rattle.std.proofs.Common.{◌≡◌, ◌≢◌, ◌||◌, inl, inr, ℕ, ◌+◌, Bool, true, false, not, cond, T, [], ◌∷◌, ◌++◌, map, Option, Some, None, refl, sym, ap, subst, ◌∙◌, arith}
 use Rattle.std.specs.Prelude.{if◌then◌else◌}
 use Rattle.std.specs.FinMap.{get, empty}
 use Rattle.std.specs.Option.{option_map}
@@ -185,7 +185,7 @@ step_keeps : (constants : Constants) (S : State) (who : Who) (call : Call) (q : 
 step_keeps constants S who call q h =
     agree_through (step_state constants S who call) (unreleased constants S who call) S q (release_keeps (unreleased constants S who call) q h.1)
     (agree_through (unreleased constants S who call) (put_all (outcome constants S who call).updates (tick S)) S q
-    (waits_keeps (step_answer constants S who call) who (waiting constants call who.since) (put_all (outcome constants S who call).updates (tick S)) q
+    (waits_keeps (step_answer constants S who call) who (waiting constants call who (S.clock + 1000)) (put_all (outcome constants S who call).updates (tick S)) q
     (outside_own S who call q h.0))
     (agree_through (put_all (outcome constants S who call).updates (tick S)) (tick S) S q
     (put_keeps (outcome constants S who call).updates (tick S) q (sets_touched constants S who call q h.0))

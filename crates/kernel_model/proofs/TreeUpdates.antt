@@ -192,7 +192,6 @@ with_tree_nearly_valid S u after v = record {
   waits = v.waits;
   channels = v.channels;
   made_channels = v.made_channels;
-  nobody = v.nobody;
 }
 
 -- ---- a process that has made more

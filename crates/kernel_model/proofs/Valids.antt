@@ -27,7 +27,7 @@ use Rattle.tree_model.specs.Retained.{retained, retained-node, retained-no_node,
 use Rattle.tree_model.specs.Tree.{IsTree, is_directory_node, links_in, links_of}
 use Rattle.kernel_model.specs.Channels.{Channel, SideState, Gone, Open, Shut, channel_left, is_empty, is_gone}
 use Rattle.kernel_model.specs.Release.{names_open, count_in, holders, carried_in, carriers, is_channel_kept, is_of_process, is_reader, is_writer, kept_channel, loses_reader, loses_writer, is_killed, table_left, process_left, status_left, without, ends, release, is_ending, is_node_kept, without_ended, without_nodes, without_over}
-use Rattle.kernel_model.specs.State.{State, Table, Threads, ProcessState, tree_of, put_one, set_open, set_table, set_term, threads_of, thread_in, thread_of, counts_in, locks_in, no_locks}
+use Rattle.kernel_model.specs.State.{State, Table, Threads, ProcessState, tree_of, put_one, set_open, set_table, set_term, threads_of, thread_in, thread_of, counts_in}
 use Rattle.kernel_model.specs.Step.{tick}
 use Rattle.kernel_model.specs.Families.Numbers.{object_of}
 use Rattle.kernel_model.specs.Fits.{fits, fits_inheriting}
@@ -199,12 +199,6 @@ left_waits : (S : State) (p t : ℕ) → MayWait (thread_of S p t) → MayWait (
 left_waits S p t h =
     subst (λ (own : Option ProcessState). MayWait (thread_in (threads_in own) t)) (sym (process_after S (ends S) p))
     (kept_waits (is_killed S (ends S) p) (get S.processes p) t h)
-
--- nobody waits in a process that was killed
-left_nobody : (killed : Bool) (own : Option ProcessState) → locks_in own ≡ no_locks → locks_in (option_map (process_left killed) own) ≡ no_locks
-left_nobody killed None h = refl
-left_nobody true (Some own) h = refl
-left_nobody false (Some own) h = h
 
 -- what stands behind an open does not depend on the parts that aren't behind any
 reader_same : (before after : FinMap nat_cmp Channel) → ((c : ℕ) → get after c ≡ get before c) → (reads : Option ℕ) → HasReader before reads → HasReader after reads
@@ -416,7 +410,6 @@ release_restores S v = record {
         channel_released S (object_of p k)
         ∙ ap (λ o. kept_channel (option_map (channel_left (loses_reader S (ends S) (object_of p k)) (loses_writer S (ends S) (object_of p k))) o))
         (v.made_channels p k small (subst (λ (c : Counts). c.objects < k) (left_counts S p) beyond) fits);
-    nobody = λ p. ap locks_in (process_after S (ends S) p) ∙ left_nobody (is_killed S (ends S) p) (get S.processes p) (v.nobody p);
   };
   held = left_is_held S;
   kept = released_kept S;
@@ -463,7 +456,6 @@ moment_nearly_valid S moment v = record {
   waits = v.waits;
   channels = v.channels;
   made_channels = v.made_channels;
-  nobody = v.nobody;
 }
 
 pub tick_nearly_valid : (S : State) → IsNearlyValid S → IsNearlyValid (tick S)
@@ -513,7 +505,6 @@ streams_nearly_valid S terms more v = record {
   waits = v.waits;
   channels = v.channels;
   made_channels = v.made_channels;
-  nobody = v.nobody;
 }
 
 pub set_term_nearly_valid : (S : State) (k : ℕ) (stream : Stream) → IsNearlyValid S → IsNearlyValid (put_one (set_term k stream) S)
@@ -605,7 +596,6 @@ set_table_nearly_valid S p old new there from v = record {
   waits = v.waits;
   channels = v.channels;
   made_channels = v.made_channels;
-  nobody = v.nobody;
 }
 
 -- ---- another value of an open
@@ -693,5 +683,4 @@ set_open_nearly_valid S o kind new there same v = record {
   waits = v.waits;
   channels = opens_joined S.opens (insert S.opens o new) S.chans (open_named S o kind new there same) (open_ends S o kind new there same) v.channels;
   made_channels = v.made_channels;
-  nobody = v.nobody;
 }

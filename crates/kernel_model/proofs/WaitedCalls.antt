@@ -1,7 +1,7 @@
 -- What a call is in which a thread may wait.
 --     waited_is_no_lack      it has no lack of memory of its own
 --     waited_is_plain      it is not denied, and has no BADF, before the kernel looks at it
-use Rattle.std.proofs.Common.{◌≡◌, ◌≢◌, Bool, true, false, List, refl, sym, ◌∙◌}
+use Rattle.std.proofs.Common.{◌≡◌, ◌≢◌, Bool, true, false, List, refl, sym, subst, ◌∙◌}
 use Rattle.std.specs.Prelude.{if◌then◌else◌}
 use Rattle.std.specs.List.{AllByRecursion}
 use Rattle.abi_base.specs.declared.errno.Errno.{Errno}
@@ -30,7 +30,7 @@ abbrev AreNotDenied : List Errno → Type 0
 AreNotDenied errors = AllByRecursion (λ errno. errno ≢ Notcapable) errors
 
 poll_is_plain : (subscriptions : List Subscription) → AreNotDenied (poll subscriptions).errors
-poll_is_plain subscriptions = poll_errors AreNotDenied ((λ e. cc), tt) tt subscriptions
+poll_is_plain subscriptions = subst AreNotDenied (sym (poll_errors subscriptions)) tt
 
 map_never_waits : (place_length : Meaning) (other : Meaning) (b : Bool) → place_length.may_wait ≡ false → other.may_wait ≡ false
     → (if b then place_length else other).may_wait ≡ false

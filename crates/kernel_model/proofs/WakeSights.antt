@@ -3,6 +3,7 @@
 --     resumed_sees_same      so it sees the same in states in which its thread runs, where it does in those before
 --     ready_decided      whether a thread is ready hangs on what its call sees alone
 use Rattle.std.proofs.Common.{◌≡◌, ℕ, not, List, [], ◌∷◌, ◌++◌, Option, Some, None, refl, sym, ap, subst, ◌∙◌}
+use Rattle.std.specs.Prelude.{if◌then◌else◌}
 use Rattle.std.specs.Option.{option_map}
 use Rattle.std.specs.FinMap.{get}
 use Rattle.abi_types.specs.declared.call.Call.{Call}
@@ -11,7 +12,8 @@ use Rattle.abi_types.specs.declared.descriptor.Descriptor.{Descriptor}
 use Rattle.abi_types.specs.declared.thread.Thread.{Thread}
 use Rattle.abi_types.specs.declared.thread.Thread.TheVariants.{Runnable}
 use Rattle.abi_types.specs.declared.who.Who.{Who}
-use Rattle.kernel_model.specs.Calls.{refusal, seen}
+use Rattle.kernel_model.specs.Calls.{meaning_of, refusal, seen}
+use Rattle.kernel_model.specs.Deadlines.{is_due}
 use Rattle.kernel_model.specs.Laws.{HasSameSight}
 use Rattle.kernel_model.specs.Outcome.{Outcome, is_parked}
 use Rattle.kernel_model.specs.Sight.{process_parts, reached_by, reached}
@@ -19,9 +21,10 @@ use Rattle.kernel_model.specs.State.{State, ProcessState, Table, Part, at_proc, 
 use Rattle.kernel_model.specs.Step.{outcome_by, reach, sight, unless_refused}
 use Rattle.kernel_model.specs.View.{restrict}
 use Rattle.kernel_model.specs.Waits.{resumed, with_thread, WaitsIn}
-use Rattle.kernel_model.specs.Wakes.{answer_now, is_done_now, is_ready, is_ready_as}
+use Rattle.kernel_model.specs.Wakes.{answer_now, goes_on_at, is_done_now, is_ready}
 use Rattle.kernel_model.proofs.Decisions.{restrict_alike, sees_clock}
 use Rattle.kernel_model.proofs.Outcomes.{reads_sight}
+use Rattle.kernel_model.proofs.Readiness.{ready_is}
 use Rattle.kernel_model.proofs.Threading.{with_alike}
 
 module _ (S : State) (p t : ℕ) (thread : Thread) where
@@ -78,5 +81,6 @@ pub ready_decided : (constants : Constants) (S T : State) (who : Who) (call : Ca
 ready_decided constants S T who call kept same =
     let alike : is_done_now constants S who call ≡ is_done_now constants T who call =
     ap (λ a. not (is_parked a)) (answers_alike constants (resumed S who) (resumed T who) who call (resumed_sees_same S T who call same)) in
-    ap (is_ready_as constants S who.pid who.tid) kept.1 ∙ alike
-    ∙ sym (ap (is_ready_as constants T who.pid who.tid) (sym (same_thread S T who call same) ∙ kept.1))
+    ready_is constants S who call kept
+    ∙ (λ i. if (meaning_of call).by_stage then goes_on_at kept.1 (is_due (sees_clock S T who call same.1 i) kept.0) else alike i)
+    ∙ sym (ready_is constants T who call (kept.0, kept.1, kept.2, sym (same_thread S T who call same) ∙ kept.3))

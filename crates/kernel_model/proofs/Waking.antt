@@ -1,7 +1,7 @@
 -- What wakes do, and what steps, wakes and ends leave of the deadlines until which threads wait.
 --     ready_has_wake, wake_ends_wait      a ready thread has a wake, and its wakes end its wait
 --     wake_moves_only, wake_error_keeps, wake_others_stay      what a wake changes
---     wake_keeps      it makes and ends no thread
+--     wake_keeps, wake_moves_none      it makes and ends no thread, and moves none that waits
 --     wake_keeps_valid, wake_keeps_made      what it leaves
 --     step_each, wake_each, end_each      what holds of each thread
 --     step_deadlines, wake_deadlines, end_deadlines      deadlines are kept
@@ -19,14 +19,17 @@ use Rattle.abi_types.specs.declared.counts.Counts.{Counts}
 use Rattle.abi_types.specs.declared.reply.Answer.{Answer}
 use Rattle.abi_types.specs.declared.reply.Answer.TheVariants as answer
 use Rattle.abi_types.specs.declared.reply.Reply.{Reply}
+use Rattle.abi_types.specs.declared.thread.Stage.TheVariants.{Queued}
 use Rattle.abi_types.specs.declared.status.Status.{Status}
 use Rattle.abi_types.specs.declared.status.Status.TheVariants.{Live, Exit, Killed}
 use Rattle.abi_types.specs.declared.thread.Thread.{Thread}
-use Rattle.abi_types.specs.declared.thread.Thread.TheVariants.{Runnable}
+use Rattle.abi_types.specs.declared.thread.Thread.TheVariants.{Runnable, Waits}
 use Rattle.abi_types.specs.declared.wake.WakeIn.{WakeIn}
 use Rattle.abi_types.specs.declared.wake.WakeIn.TheVariants as wake
 use Rattle.abi_types.specs.declared.who.Who.{Who}
 use Rattle.kernel_model.specs.Calls.{meaning_of}
+use Rattle.kernel_model.specs.Deadlines.{is_due}
+use Rattle.kernel_model.specs.Families.Locks.{with_word}
 use Rattle.kernel_model.specs.Families.ProcessCalls.{ended_process}
 use Rattle.kernel_model.specs.Laws.{HasSameProcess, IsKilled, MovesOnly}
 use Rattle.kernel_model.specs.Outcome.{is_parked}
@@ -35,12 +38,13 @@ use Rattle.kernel_model.specs.Reply.{refused}
 use Rattle.kernel_model.specs.State.{State, ProcessState, Part, Threads, counts_in, has_part, Agree, threads_of, thread_in, thread_of}
 use Rattle.kernel_model.specs.Release.{ends, is_killed, process_left}
 use Rattle.kernel_model.specs.Step.{tick, end_state, end_unreleased, step_answer, step_state, touch, IsStep, IsUntouched}
-use Rattle.kernel_model.specs.Threads.{child_made, ends_caller, ends_others, makes_child, makes_thread, IsCallerAfter, LeavesCounts, LeavesThreads}
+use Rattle.kernel_model.specs.Threads.{child_made, ends_caller, ends_others, makes_child, makes_thread, moves_waiters, IsCallerAfter, IsMoved, LeavesCounts, LeavesThreads}
 use Rattle.kernel_model.specs.Valid.{IsValid}
 use Rattle.kernel_model.specs.WaitLaws.{ResumesOnly, WakesOnly}
 use Rattle.kernel_model.specs.Waits.{resumed, waiting, HasDeadline, HasDeadlines, MayWait, WaitsIn}
-use Rattle.kernel_model.specs.Wakes.{answer_now, is_done_now, is_ready, IsWake}
+use Rattle.kernel_model.specs.Wakes.{answer_now, goes_on_at, is_done_now, is_ready, may_queue, woken, IsWake}
 use Rattle.kernel_model.proofs.Ends.{process_after}
+use Rattle.kernel_model.proofs.Moving.{moved_as_may, moved_runs}
 use Rattle.kernel_model.proofs.Outcomes.{outcome_reads}
 use Rattle.kernel_model.proofs.Parts.{agree_through}
 use Rattle.kernel_model.proofs.Readiness.{done_stays, ready_is}
@@ -52,6 +56,7 @@ use Rattle.kernel_model.proofs.Threads.{leaves_counts, undone_allows, undone_sta
 use Rattle.kernel_model.proofs.Touches.{others_stay, outside_own, tick_keeps, outside_clock}
 use Rattle.kernel_model.proofs.EndedValid.{threads_at}
 use Rattle.kernel_model.proofs.Valids.{tick_valid}
+use Rattle.kernel_model.proofs.WokenCalls.{counts_by_word, may_queue_by, parked_lasts, queueing, queueing_at, same_by_word, same_condition, undone_moves, waited_moves, word_unread}
 
 -- ---- the wake of a ready thread
 
@@ -59,22 +64,33 @@ not_not : (b : Bool) → not b ≡ true → b ≡ false
 not_not true h = absurd (not_true h)
 not_not false h = refl
 
-answers_then : (constants : Constants) (S : State) (who : Who) (call : Call) → WaitsIn S who call → is_ready constants S who.pid who.tid ≡ true
-    → is_parked (step_answer constants (resumed S who) who call) ≡ false
-answers_then constants S who call kept ready =
+-- where a thread is ready and yet waits on in the step of its call, it has left its condition variable
+queues_then : (constants : Constants) (S : State) (who : Who) (call : Call) (word : ℕ) → WaitsIn S who call → is_ready constants S who.pid who.tid ≡ true
+    → is_parked (step_answer constants (resumed S who) who (with_word word call)) ≡ true → may_queue call who.stage ≡ true
+queues_then constants S who call word kept ready parked =
     let R = resumed S who in
-    let later : is_done_now constants (tick S) who call ≡ true =
-    done_stays constants S who call (S.clock + 1000) (omega arith) (ready_is constants S who call kept ready) in
-    ap (λ o. is_parked o.answer) (outcome_reads constants R who call) ∙ not_not (is_parked (answer_now constants (tick R) who call)) later
+    elim (meaning_of call).by_stage as (λ b. (meaning_of call).by_stage ≡ b
+    → (if b then goes_on_at kept.1 (is_due S.clock kept.0) else is_done_now constants S who call) ≡ true → may_queue call who.stage ≡ true) [
+      | true ↦ λ by goes. ap (may_queue call) kept.2
+          ∙ may_queue_by call kept.1 (is_due S.clock kept.0) goes (queueing constants R who call word kept.1 kept.2 by parked)
+      | false ↦ λ by done. (
+          let later : is_done_now constants (tick S) who call ≡ true = done_stays constants S who call (S.clock + 1000) (omega arith) done in
+          let replies : is_parked (step_answer constants R who call) ≡ false =
+          ap (λ o. is_parked o.answer) (outcome_reads constants R who call) ∙ not_not (is_parked (answer_now constants (tick R) who call)) later in
+          absurd (not_true (sym (ap (λ c. is_parked (step_answer constants R who c)) (word_unread word call by) ∙ replies) ∙ parked)))
+    ] refl (sym (ready_is constants S who call kept) ∙ ready)
 
 pub ready_has_wake : (constants : Constants) (S : State) (who : Who) (call : Call) (word : ℕ) → WaitsIn S who call → is_ready constants S who.pid who.tid ≡ true
-    → IsWake constants S who call (wake.Plain word) (step_answer constants (resumed S who) who call) (step_state constants (resumed S who) who call)
-ready_has_wake constants S who call word kept ready = (inl (refl, refl), answers_then constants S who call kept ready)
+    → IsWake constants S who call (wake.Plain word) (step_answer constants (resumed S who) who (with_word word call))
+    (step_state constants (resumed S who) who (with_word word call))
+ready_has_wake constants S who call word kept ready = (inl (refl, refl), queues_then constants S who call word kept ready)
 
-pub wake_ends_wait : (constants : Constants) (S : State) (who : Who) (call : Call) (answered : Answer) (T : State) → WaitsIn S who call
-    → is_ready constants S who.pid who.tid ≡ true → IsStep constants (resumed S who) who call answered T → is_parked answered ≡ false
-wake_ends_wait constants S who call answered T kept ready (inl done) = ap is_parked done.0 ∙ answers_then constants S who call kept ready
-wake_ends_wait constants S who call answered T kept ready (inr lacking) = ap is_parked lacking.1
+pub wake_ends_wait : (constants : Constants) (S : State) (who : Who) (call : Call) (word : ℕ) (answered : Answer) (T : State) → WaitsIn S who call
+    → is_ready constants S who.pid who.tid ≡ true → IsStep constants (resumed S who) who (with_word word call) answered T
+    → is_parked answered ≡ true → may_queue call who.stage ≡ true
+wake_ends_wait constants S who call word answered T kept ready (inl done) parked =
+    queues_then constants S who call word kept ready (sym (ap is_parked done.0) ∙ parked)
+wake_ends_wait constants S who call word answered T kept ready (inr lacking) parked = absurd (not_true (sym (ap is_parked lacking.1) ∙ parked))
 
 -- ---- what a wake changes
 
@@ -92,10 +108,6 @@ others_through S R T q same (inr killed) =
       ),
       (sym same.2 ∙ killed.1.0, killed.1.1),
     )
-
-replied_caller : (thread : Thread) (given : Answer) (before after : Option Thread) → is_parked given ≡ false → IsCallerAfter thread given before after → after ≡ before
-replied_caller thread (answer.Parked writes) before after none is = absurd (not_true (sym none))
-replied_caller thread (answer.Reply reply) before after none is = is
 
 always_runs : (o : Option Thread) → IsSome o → option_map (λ (before : Thread). Runnable) o ≡ Some Runnable
 always_runs None there = absurd (not_true there)
@@ -122,24 +134,49 @@ resumed_runs S who = record {
   threads = thread_apart S who.pid who.tid Runnable;
 }
 
--- what is a step from the state in which the thread runs
-resumed_moves : (constants : Constants) (S : State) (who : Who) (call : Call) (answered : Answer) (T : State) → is_parked answered ≡ false
-    → MovesOnly constants (resumed S who) who call answered T → WakesOnly S who call answered T
-resumed_moves constants S who call answered T replied moves = record {
-  clock = moves.clock;
-  others = λ childless q apart. others_through S (resumed S who) T q (resumed_other S who q apart) (moves.others q apart
-      (λ is. none_is_no q (sym (ap (λ b. if b then next_child who.pid (get (resumed S who).processes who.pid) else None) childless) ∙ is)));
-  runs = λ live there lasts.
-      replied_caller (waiting constants call who.since) answered (thread_of (resumed S who) who.pid who.tid) (thread_of T who.pid who.tid) replied
-      ((moves.threads live).caller lasts) ∙ runs_there S who there;
-  threads = λ live t apart there lasts. (
-      let same = thread_apart S who.pid who.tid Runnable t apart in
-      (moves.threads live).others t apart (subst IsSome (sym same) there) lasts ∙ same);
-  made = λ live t none there. (
-      let makes = (moves.threads live).made t (none_resumed S who t none) there in
-      (makes.0, makes.1 ∙ ap (λ (c : Counts). c.threads + 1) (with_counts S who.pid who.tid Runnable who.pid), makes.2));
-  counts = subst (λ (c : Counts). LeavesCounts call answered c (counts_in (get T.processes who.pid))) (with_counts S who.pid who.tid Runnable who.pid) moves.counts;
-}
+-- a thread whose call is done runs on, and one that waits on waits so
+caller_runs : (waits : Thread) (given : Answer) (before after : Option Thread) → is_parked given ≡ false → before ≡ Some Runnable
+    → IsCallerAfter waits given before after → after ≡ Some Runnable
+caller_runs waits (answer.Parked writes) before after replies runs is = absurd (not_true (sym replies))
+caller_runs waits (answer.Reply reply) before after replies runs is = moved_runs before after is runs
+
+caller_waits : (waits : Thread) (given : Answer) (before after : Option Thread) → is_parked given ≡ true → before ≡ Some Runnable
+    → IsCallerAfter waits given before after → after ≡ Some waits
+caller_waits waits (answer.Parked writes) before after parked runs is = is ∙ ap (option_map (λ (was : Thread). waits)) runs
+caller_waits waits (answer.Reply reply) before after parked runs is = absurd (not_true parked)
+
+-- what is a step from the state in which the thread runs, with the word that its lock has
+resumed_moves : (constants : Constants) (S : State) (who : Who) (call : Call) (word : ℕ) (answered : Answer) (T : State)
+    → (is_parked answered ≡ true → may_queue call who.stage ≡ true) → MovesOnly constants (resumed S who) who (with_word word call) answered T
+    → WakesOnly S who call answered T
+resumed_moves constants S who call word answered T queues moves =
+    let now : ℕ = S.clock + 1000 in
+    let C : Call = with_word word call in
+    let same = same_by_word word call answered in
+    record {
+      clock = moves.clock;
+      others = λ childless q apart. others_through S (resumed S who) T q (resumed_other S who q apart) (moves.others q apart
+          (λ is. none_is_no q (sym (ap (λ b. if b then next_child who.pid (get (resumed S who).processes who.pid) else None) (same.born ∙ childless)) ∙ is)));
+      runs = λ live there lasts replies.
+          caller_runs (waiting constants C who now) answered (thread_of (resumed S who) who.pid who.tid) (thread_of T who.pid who.tid) replies
+          (runs_there S who there) ((moves.threads live).caller (same.caller ∙ lasts));
+      queues = λ live there parked.
+          let waits = queueing_at constants who.since call C now who.stage (queues parked) (same_condition word call) in (
+            word,
+            waits.0,
+            caller_waits (waiting constants C who now) answered (thread_of (resumed S who) who.pid who.tid) (thread_of T who.pid who.tid) parked
+                (runs_there S who there) ((moves.threads live).caller (parked_lasts C answered parked))
+                ∙ ap Some waits.1 ∙ ap (λ n. Some (Waits C who.since None (Queued n waits.0))) (sym moves.clock),
+          );
+      threads = λ live t apart there lasts still. (
+          let kept = thread_apart S who.pid who.tid Runnable t apart in
+          (moves.threads live).same (same.moves ∙ still) t apart (subst IsSome (sym kept) there) (same.others ∙ lasts) ∙ kept);
+      made = λ live t none there. (
+          let makes = (moves.threads live).made t (none_resumed S who t none) there in
+          (sym same.thread ∙ makes.0, makes.1 ∙ ap (λ (c : Counts). c.threads + 1) (with_counts S who.pid who.tid Runnable who.pid), makes.2));
+      counts = counts_by_word word call answered (counts_in (get S.processes who.pid)) (counts_in (get T.processes who.pid))
+          (subst (λ (c : Counts). LeavesCounts C answered c (counts_in (get T.processes who.pid))) (with_counts S who.pid who.tid Runnable who.pid) moves.counts);
+    }
 
 -- a call that is refused with FAULT does not end its thread
 pub fault_ends : (call : Call) → ends_caller call (answer.Reply (refused Fault)) ≡ false
@@ -155,18 +192,19 @@ fault_counts S who call answered is =
     (subst (λ c. LeavesCounts call (answer.Reply (refused Fault)) c (counts_in (get (resumed S who).processes who.pid))) (with_counts S who.pid who.tid Runnable who.pid)
     (leaves_counts call (answer.Reply (refused Fault)) who.pid who.tid (resumed S who) (tick (resumed S who))
     (undone_allows change who.tid (answer.Reply (refused Fault)) (get (resumed S who).processes who.pid) refl)
-    (inl (undone_stays change who.tid (answer.Reply (refused Fault)) refl (get (resumed S who).processes who.pid)))))
+    (inl (undone_stays change who.tid (answer.Reply (refused Fault)) refl refl (get (resumed S who).processes who.pid)))))
 
 pub wake_moves_only : (constants : Constants) (S : State) (who : Who) (call : Call) (given : WakeIn) (answered : Answer) (T : State)
     → IsWake constants S who call given answered T → WakesOnly S who call answered T
 wake_moves_only constants S who call (wake.Plain word) answered T is =
-    resumed_moves constants S who call answered T is.1 (step_moves_only constants (resumed S who) who call answered T is.0)
+    resumed_moves constants S who call word answered T is.1 (step_moves_only constants (resumed S who) who (with_word word call) answered T is.0)
 wake_moves_only constants S who call wake.Fault answered T is =
     subst (WakesOnly S who call answered) (sym is.1) (record {
       clock = refl;
       others = λ childless q apart. inl (resumed_other S who q apart);
-      runs = λ live there lasts. runs_there S who there;
-      threads = λ live t apart there lasts. thread_apart S who.pid who.tid Runnable t apart;
+      runs = λ live there lasts replies. runs_there S who there;
+      queues = λ live there parked. absurd (not_true (sym (ap is_parked is.0) ∙ parked));
+      threads = λ live t apart there lasts still. thread_apart S who.pid who.tid Runnable t apart;
       made = λ live t none there. absurd (not_true (subst IsSome (none_resumed S who t none) there));
       counts = fault_counts S who call answered is.0;
     })
@@ -174,7 +212,14 @@ wake_moves_only constants S who call wake.Fault answered T is =
 -- what waits waits in a call in which it may, so its wake makes and ends no thread
 pub wake_keeps : (S : State) (who : Who) (call : Call) (answered : Answer) → IsValid S → WaitsIn S who call
     → (ends_caller call answered ≡ false) × (ends_others call answered ≡ false) × (makes_thread call answered ≡ false) × (makes_child call answered ≡ false)
-wake_keeps S who call answered valid kept = waited_keeps call answered (subst MayWait kept.1 (valid.nearly.waits who.pid who.tid))
+wake_keeps S who call answered valid kept = waited_keeps call answered (subst MayWait kept.3 (valid.nearly.waits who.pid who.tid)).0
+
+-- nor does it give a lock to a thread that waits, or signal one
+pub wake_moves_none : (constants : Constants) (S : State) (who : Who) (call : Call) (given : WakeIn) (answered : Answer) (T : State)
+    → IsWake constants S who call given answered T → IsValid S → WaitsIn S who call → moves_waiters call answered ≡ false
+wake_moves_none constants S who call (wake.Plain word) answered T is valid kept =
+    waited_moves constants (resumed S who) who call word kept.1 kept.2 answered T (subst MayWait kept.3 (valid.nearly.waits who.pid who.tid)).0 is.0
+wake_moves_none constants S who call wake.Fault answered T is valid kept = ap (moves_waiters call) is.0 ∙ undone_moves call (refused Fault) refl
 
 pub resumed_valid : (S : State) (who : Who) → IsValid S → IsValid (resumed S who)
 resumed_valid S who valid = with_valid S who.pid who.tid Runnable tt valid
@@ -182,16 +227,17 @@ resumed_valid S who valid = with_valid S who.pid who.tid Runnable tt valid
 pub wake_error_keeps : (constants : Constants) (S : State) (who : Who) (call : Call) (given : WakeIn) (reply : Reply) (T : State)
     → IsWake constants S who call given (answer.Reply reply) T → IsValid S → reply.errno ≢ Success → T ≡ tick (resumed S who)
 wake_error_keeps constants S who call (wake.Plain word) reply T is valid other =
-    error_keeps constants (resumed S who) who call reply T is.0 (resumed_valid S who valid) other
+    error_keeps constants (resumed S who) who (with_word word call) reply T is.0 (resumed_valid S who valid) other
 wake_error_keeps constants S who call wake.Fault reply T is valid other = is.1
 
 resumed_keeps : (S : State) (who : Who) (call : Call) (q : Part) → has_part (touch (resumed S who) who call) q ≡ false → Agree (resumed S who) S q
 resumed_keeps S who call q h = with_keeps S who.pid who.tid Runnable q (outside_own (resumed S who) who call q h)
 
 pub wake_others_stay : (constants : Constants) (S : State) (who : Who) (call : Call) (given : WakeIn) (answered : Answer) (T : State) (q : Part)
-    → IsWake constants S who call given answered T → IsUntouched constants (resumed S who) who call q → Agree T S q
+    → IsWake constants S who call given answered T → IsUntouched constants (resumed S who) who (woken call given) q → Agree T S q
 wake_others_stay constants S who call (wake.Plain word) answered T q is untouched =
-    agree_through T (resumed S who) S q (others_stay constants (resumed S who) who call answered T q is.0 untouched) (resumed_keeps S who call q untouched.0)
+    agree_through T (resumed S who) S q (others_stay constants (resumed S who) who (with_word word call) answered T q is.0 untouched)
+    (resumed_keeps S who (with_word word call) q untouched.0)
 wake_others_stay constants S who call wake.Fault answered T q is untouched =
     subst (λ U. Agree U S q) (sym is.1)
     (agree_through (tick (resumed S who)) (resumed S who) S q (tick_keeps (resumed S who) q (outside_clock (resumed S who) who call q untouched.0))
@@ -202,13 +248,13 @@ wake_others_stay constants S who call wake.Fault answered T q is untouched =
 pub wake_keeps_valid : (constants : Constants) (S : State) (who : Who) (call : Call) (given : WakeIn) (answered : Answer) (T : State)
     → IsWake constants S who call given answered T → IsValid S → IsValid T
 wake_keeps_valid constants S who call (wake.Plain word) answered T is valid =
-    step_keeps_valid constants (resumed S who) who call answered T is.0 (resumed_valid S who valid)
+    step_keeps_valid constants (resumed S who) who (with_word word call) answered T is.0 (resumed_valid S who valid)
 wake_keeps_valid constants S who call wake.Fault answered T is valid =
     subst IsValid (sym is.1) (tick_valid (resumed S who) (resumed_valid S who valid))
 
 pub wake_keeps_made : (constants : Constants) (S : State) (who : Who) (call : Call) (given : WakeIn) (answered : Answer) (T : State) (q : ℕ)
     → IsWake constants S who call given answered T → IsSome (get S.statuses q) → IsSome (get T.statuses q)
-wake_keeps_made constants S who call (wake.Plain word) answered T q is made = step_keeps_made constants (resumed S who) who call answered T q is.0 made
+wake_keeps_made constants S who call (wake.Plain word) answered T q is made = step_keeps_made constants (resumed S who) who (with_word word call) answered T q is.0 made
 wake_keeps_made constants S who call wake.Fault answered T q is made = subst (λ (U : State). IsSome (get U.statuses q)) (sym is.1) made
 
 -- ---- what holds of each thread
@@ -246,19 +292,20 @@ comes_or_not : (constants : Constants) (S : State) (who : Who) (call : Call) (gi
 comes_or_not constants S who call given T leaves t none None is = inl refl
 comes_or_not constants S who call given T leaves t none (Some thread) is = inr (sym is ∙ (leaves.made t none (ap is_some is)).2)
 
--- a thread that the step of another has left is what it was, unless it is there no more or was made by that and runs
+-- a thread that the step of another has left is what it was, or was given its lock or was signalled, unless it is there no more or was made by that
+-- and runs
 pub other_after : (constants : Constants) (S : State) (who : Who) (call : Call) (given : Answer) (T : State) → IsStep constants S who call given T → IsValid T
     → (t : ℕ) → t ≢ who.tid
-    → ((thread_of T who.pid t ≡ None) ⊎ (thread_of T who.pid t ≡ Some Runnable)) ⊎ (thread_of T who.pid t ≡ thread_of S who.pid t)
+    → ((thread_of T who.pid t ≡ None) ⊎ (thread_of T who.pid t ≡ Some Runnable)) ⊎ IsMoved (thread_of S who.pid t) (thread_of T who.pid t)
 other_after constants S who call given T step valid t apart =
     elim (live_or_dead (get T.statuses who.pid)) [
       | inl live ↦ (
           let leaves = (step_moves_only constants S who call given T step).threads live in
           elim (thread_of S who.pid t) as (λ o. thread_of S who.pid t ≡ o
-          → ((thread_of T who.pid t ≡ None) ⊎ (thread_of T who.pid t ≡ Some Runnable)) ⊎ (thread_of T who.pid t ≡ thread_of S who.pid t)) [
+          → ((thread_of T who.pid t ≡ None) ⊎ (thread_of T who.pid t ≡ Some Runnable)) ⊎ IsMoved (thread_of S who.pid t) (thread_of T who.pid t)) [
             | None ↦ λ e. inl (comes_or_not constants S who call given T leaves t e (thread_of T who.pid t) refl)
             | Some thread ↦ λ e. elim (ends_others call given) as (λ b. ends_others call given ≡ b
-                → ((thread_of T who.pid t ≡ None) ⊎ (thread_of T who.pid t ≡ Some Runnable)) ⊎ (thread_of T who.pid t ≡ thread_of S who.pid t)) [
+                → ((thread_of T who.pid t ≡ None) ⊎ (thread_of T who.pid t ≡ Some Runnable)) ⊎ IsMoved (thread_of S who.pid t) (thread_of T who.pid t)) [
                   | true ↦ λ clears. inl (inl (leaves.alone clears t apart))
                   | false ↦ λ stays. inr (leaves.others t apart (ap is_some e) stays)
                 ] refl
@@ -269,13 +316,13 @@ other_after constants S who call given T step valid t apart =
 -- what the caller does after its step: nothing, or what its answer says
 pub caller_after : (constants : Constants) (S : State) (who : Who) (call : Call) (given : Answer) (T : State) → IsStep constants S who call given T → IsValid T
     → (thread_of T who.pid who.tid ≡ None)
-    ⊎ IsCallerAfter (waiting constants call who.since) given (thread_of S who.pid who.tid) (thread_of T who.pid who.tid)
+    ⊎ IsCallerAfter (waiting constants call who (S.clock + 1000)) given (thread_of S who.pid who.tid) (thread_of T who.pid who.tid)
 caller_after constants S who call given T step valid =
     elim (live_or_dead (get T.statuses who.pid)) [
       | inl live ↦ (
           let leaves = (step_moves_only constants S who call given T step).threads live in
           elim (ends_caller call given) as (λ b. ends_caller call given ≡ b → (thread_of T who.pid who.tid ≡ None)
-          ⊎ IsCallerAfter (waiting constants call who.since) given (thread_of S who.pid who.tid) (thread_of T who.pid who.tid)) [
+          ⊎ IsCallerAfter (waiting constants call who (S.clock + 1000)) given (thread_of S who.pid who.tid) (thread_of T who.pid who.tid)) [
             | true ↦ λ ends. inl (leaves.ended ends)
             | false ↦ λ lasts. inr (leaves.caller lasts)
           ] refl)
@@ -311,29 +358,34 @@ module _ (P : ℕ → ℕ → Option Thread → Type 0) (none : (p t : ℕ) → 
   other_thread S T q t (inr killed) before =
       subst (P q t) (sym (ap (λ o. thread_in (threads_in o) t) killed.0.1 ∙ killed_threads (get S.processes q) t)) (none q t)
 
-  caller_thread : (p t : ℕ) (thread : Thread) (given : Answer) (before after : Option Thread) → (is_parked given ≡ true → P p t (Some thread))
-      → IsCallerAfter thread given before after → P p t before → P p t after
-  caller_thread p t thread (answer.Parked writes) None after waits is h = subst (P p t) (sym is) (none p t)
-  caller_thread p t thread (answer.Parked writes) (Some before) after waits is h = subst (P p t) (sym is) (waits refl)
-  caller_thread p t thread (answer.Reply reply) before after waits is h = subst (P p t) (sym is) h
+  -- it holds still of a thread that is given its lock or is signalled
+  abbrev HoldsStill : Type 0
+  HoldsStill = (p t : ℕ) (before after : Option Thread) → IsMoved before after → P p t before → P p t after
 
-  -- what holds of each thread, of one that runs, and of one that waits in the call where it does, holds of each after a step
-  pub step_each : ((p t : ℕ) → P p t (Some Runnable)) → (constants : Constants) (S : State) (who : Who) (call : Call) (given : Answer) (T : State) → IsStep constants S who call given T → IsValid T
-      → (is_parked given ≡ true → P who.pid who.tid (Some (waiting constants call who.since))) → ((p t : ℕ) → P p t (thread_of S p t))
+  caller_thread : HoldsStill → (p t : ℕ) (thread : Thread) (given : Answer) (before after : Option Thread) → (is_parked given ≡ true → P p t (Some thread))
+      → IsCallerAfter thread given before after → P p t before → P p t after
+  caller_thread still p t thread (answer.Parked writes) None after waits is h = subst (P p t) (sym is) (none p t)
+  caller_thread still p t thread (answer.Parked writes) (Some before) after waits is h = subst (P p t) (sym is) (waits refl)
+  caller_thread still p t thread (answer.Reply reply) before after waits is h = still p t before after is h
+
+  -- what holds of each thread, of one that runs, of one that is given its lock or is signalled, and of one that waits in the call where it does, holds
+  -- of each after a step
+  pub step_each : ((p t : ℕ) → P p t (Some Runnable)) → HoldsStill → (constants : Constants) (S : State) (who : Who) (call : Call) (given : Answer) (T : State) → IsStep constants S who call given T → IsValid T
+      → (is_parked given ≡ true → P who.pid who.tid (Some (waiting constants call who (S.clock + 1000)))) → ((p t : ℕ) → P p t (thread_of S p t))
       → (p t : ℕ) → P p t (thread_of T p t)
-  step_each runs constants S who call given T step valid waits before p t =
+  step_each runs still constants S who call given T step valid waits before p t =
       elim (eqb_tells p who.pid) [
         | inl is ↦ subst (λ q. P q t (thread_of T q t)) (sym is.1) (elim (eqb_tells t who.tid) [
           | inl same ↦ subst (λ u. P who.pid u (thread_of T who.pid u)) (sym same.1)
               (elim (caller_after constants S who call given T step valid) [
                 | inl gone ↦ subst (P who.pid who.tid) (sym gone) (none who.pid who.tid)
-                | inr is_after ↦ caller_thread who.pid who.tid (waiting constants call who.since) given (thread_of S who.pid who.tid)
+                | inr is_after ↦ caller_thread still who.pid who.tid (waiting constants call who (S.clock + 1000)) given (thread_of S who.pid who.tid)
                     (thread_of T who.pid who.tid) waits is_after (before who.pid who.tid)
               ])
           | inr other ↦ elim (other_after constants S who call given T step valid t other.1) [
             | inl (inl gone) ↦ subst (P who.pid t) (sym gone) (none who.pid t)
             | inl (inr made) ↦ subst (P who.pid t) (sym made) (runs who.pid t)
-            | inr stays ↦ subst (P who.pid t) (sym stays) (before who.pid t)
+            | inr moved ↦ still who.pid t (thread_of S who.pid t) (thread_of T who.pid t) moved (before who.pid t)
           ]
         ])
         | inr other ↦ (
@@ -357,16 +409,17 @@ module _ (P : ℕ → ℕ → Option Thread → Type 0) (none : (p t : ℕ) → 
         | inr other ↦ other_thread S (end_state S p status) q t (ends.others q other.1) (before q t)
       ]
 
--- what holds of each thread that waits or runs, after a wake
-pub wake_each : (P : ℕ → ℕ → Option Thread → Type 0) → ((p t : ℕ) → P p t None) → ((p t : ℕ) → P p t (Some Runnable)) → (constants : Constants) (S : State)
+-- what holds of each thread that waits or runs, and of the one that waits on for its lock where it does, after a wake
+pub wake_each : (P : ℕ → ℕ → Option Thread → Type 0) → ((p t : ℕ) → P p t None) → ((p t : ℕ) → P p t (Some Runnable))
+    → ((p t : ℕ) (before after : Option Thread) → IsMoved before after → P p t before → P p t after) → (constants : Constants) (S : State)
     (who : Who) (call : Call) (given : WakeIn) (answered : Answer) (T : State) → IsWake constants S who call given answered T → IsValid S
+    → (is_parked answered ≡ true → P who.pid who.tid (Some (waiting constants (woken call given) who (S.clock + 1000))))
     → ((p t : ℕ) → P p t (thread_of S p t)) → (p t : ℕ) → P p t (thread_of T p t)
-wake_each P none runs constants S who call (wake.Plain word) answered T is valid before =
-    step_each P none runs constants (resumed S who) who call answered T is.0
-    (step_keeps_valid constants (resumed S who) who call answered T is.0 (resumed_valid S who valid))
-    (λ parked. absurd (not_true (sym is.1 ∙ parked)))
+wake_each P none runs still constants S who call (wake.Plain word) answered T is valid waits before =
+    step_each P none runs still constants (resumed S who) who (with_word word call) answered T is.0
+    (step_keeps_valid constants (resumed S who) who (with_word word call) answered T is.0 (resumed_valid S who valid)) waits
     (each_of who.pid who.tid Runnable S P (runs who.pid who.tid) before)
-wake_each P none runs constants S who call wake.Fault answered T is valid before =
+wake_each P none runs still constants S who call wake.Fault answered T is valid waits before =
     subst (λ (U : State). (p t : ℕ) → P p t (thread_of U p t)) (sym is.1) (each_of who.pid who.tid Runnable S P (runs who.pid who.tid) before)
 
 -- ---- deadlines
@@ -374,13 +427,14 @@ wake_each P none runs constants S who call wake.Fault answered T is valid before
 pub step_deadlines : (constants : Constants) (S : State) (who : Who) (call : Call) (given : Answer) (T : State) → IsStep constants S who call given T
     → IsValid S → HasDeadlines constants S → HasDeadlines constants T
 step_deadlines constants S who call given T step valid before =
-    step_each (λ p t. HasDeadline constants) (λ p t. tt) (λ p t. tt) constants S who call given T step (step_keeps_valid constants S who call given T step valid)
+    step_each (λ p t. HasDeadline constants) (λ p t. tt) (λ p t. tt) (λ p t before after moved. (moved_as_may before after moved).until constants) constants S who call given T step (step_keeps_valid constants S who call given T step valid)
     (λ _. refl) before
 
 pub wake_deadlines : (constants : Constants) (S : State) (who : Who) (call : Call) (given : WakeIn) (answered : Answer) (T : State)
     → IsWake constants S who call given answered T → IsValid S → HasDeadlines constants S → HasDeadlines constants T
 wake_deadlines constants S who call given answered T is valid before =
-    wake_each (λ p t. HasDeadline constants) (λ p t. tt) (λ p t. tt) constants S who call given answered T is valid before
+    wake_each (λ p t. HasDeadline constants) (λ p t. tt) (λ p t. tt) (λ p t before after moved. (moved_as_may before after moved).until constants) constants S who call given answered T is valid
+    (λ _. refl) before
 
 pub end_deadlines : (constants : Constants) (S : State) (p : ℕ) (status : Status) → status ≢ Live → IsValid S → HasDeadlines constants S
     → HasDeadlines constants (end_state S p status)

@@ -20,7 +20,7 @@ use Rattle.kernel_model.specs.Families.ForkCalls.{proc_exec, proc_fork}
 use Rattle.kernel_model.specs.Families.ProcessCalls.{proc_exit, proc_raise, thread_create, thread_exit, thread_yield}
 use Rattle.kernel_model.specs.Families.SocketCalls.{fd_create1, fd_create2, sock_recv, sock_send, sock_shutdown}
 use Rattle.kernel_model.specs.Families.StreamCalls.{fd_read, fd_seek, fd_write}
-use Rattle.kernel_model.specs.Families.WaitCalls.{condvar_signal, lock_unlock}
+use Rattle.kernel_model.specs.Families.LockCalls.{condvar_signal, lock_unlock}
 use Rattle.kernel_model.specs.Families.Polls.{poll}
 use Rattle.kernel_model.specs.Meaning.{Meaning}
 use Rattle.kernel_model.specs.Need as needs
@@ -30,7 +30,7 @@ use Rattle.kernel_model.specs.State.{Table}
 abbrev pub meaning_of : Call → Meaning
 meaning_of (call.ClockResGet clock) = clock_res_get
 meaning_of (call.ClockTimeGet clock precision) = clock_time_get clock
-meaning_of (call.CondvarSignal condvar word scope n) = condvar_signal
+meaning_of (call.CondvarSignal condvar word scope n) = condvar_signal condvar n
 meaning_of (call.FdClose fd) = fd_close fd
 meaning_of (call.FdCreate1 kind) = fd_create1
 meaning_of (call.FdCreate2 kind) = fd_create2 kind
@@ -59,7 +59,7 @@ meaning_of (call.FileStatGet lookup path) = file_stat_get lookup path
 meaning_of (call.FileStatPut lookup path stat flags) = file_stat_put lookup path stat flags
 meaning_of (call.FileSymlink text fd path) = file_symlink text fd path
 meaning_of (call.FileUnlink fd path flags) = file_unlink fd path flags
-meaning_of (call.LockUnlock lock word scope) = lock_unlock
+meaning_of (call.LockUnlock lock word scope) = lock_unlock lock word
 meaning_of (call.MemMap place length prot flags fd offset) = mem_map place length prot flags fd offset
 meaning_of (call.Memory number errno) = decided errno
 meaning_of (call.Poll subscriptions) = poll subscriptions

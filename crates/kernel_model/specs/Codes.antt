@@ -14,11 +14,9 @@ use Rattle.abi_types.specs.contracts.open_kind.OpenKind as open_kind
 use Rattle.abi_types.specs.contracts.status.Status as status
 use Rattle.abi_types.specs.contracts.stream.Stream as stream
 use Rattle.abi_types.specs.contracts.thread.Thread as thread
-use Rattle.abi_types.specs.contracts.waiter.Waiter as waiter
-use Rattle.abi_types.specs.declared.waiter.Waiter.{Waiter}
 use Rattle.fd_table.specs.Table.{table_code}
 use Rattle.channels.specs.Channels.{Channel, channel_code}
-use Rattle.kernel_model.specs.State.{State, Table, Threads, Locks, ProcessState, Names}
+use Rattle.kernel_model.specs.State.{State, Table, Threads, ProcessState, Names}
 
 abbrev pub threads_code : Coded Threads
 threads_code = code coded_ℕ thread.the_row.coded
@@ -26,24 +24,10 @@ threads_code = code coded_ℕ thread.the_row.coded
 abbrev pub names_code : Coded Names
 names_code = code (coded_list coded_ℕ) coded_ℕ
 
-abbrev LockFields : Type 0
-LockFields = FinMap nat_cmp (List Waiter) × (FinMap nat_cmp (List ℕ) × (List ℕ × (List ℕ × List ℕ)))
-
-abbrev lock_fields_code : Coded LockFields
-lock_fields_code =
-    coded× (code coded_ℕ (coded_list waiter.the_row.coded))
-    (coded× (code coded_ℕ (coded_list coded_ℕ)) (coded× (coded_list coded_ℕ) (coded× (coded_list coded_ℕ) (coded_list coded_ℕ))))
-
-abbrev pub locks_code : Coded Locks
-locks_code =
-    code_by LockFields lock_fields_code (λ l. (l.waiting, (l.at_conditions, (l.granted, (l.signalled, l.late)))))
-    (λ f. record { waiting = f.0; at_conditions = f.1.0; granted = f.1.1.0; signalled = f.1.1.1.0; late = f.1.1.1.1 }) (λ _. refl)
-
 abbrev pub process_code : Coded ProcessState
 process_code =
-    code_by (Threads × (Counts × (Locks × ℕ))) (coded× threads_code (coded× counts.the_row.coded (coded× locks_code coded_ℕ)))
-    (λ own. (own.threads, (own.counts, (own.locks, own.depth))))
-    (λ f. record { threads = f.0; counts = f.1.0; locks = f.1.1.0; depth = f.1.1.1 }) (λ _. refl)
+    code_by (Threads × (Counts × ℕ)) (coded× threads_code (coded× counts.the_row.coded coded_ℕ)) (λ own. (own.threads, (own.counts, own.depth)))
+    (λ f. record { threads = f.0; counts = f.1.0; depth = f.1.1 }) (λ _. refl)
 
 -- the fields as nested pairs
 abbrev Fields : Type 0

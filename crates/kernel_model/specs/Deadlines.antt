@@ -18,7 +18,7 @@ is_due now (Some until) = not (nat_lt now until)
 -- until when a thread waits, if there is such a moment that counts
 abbrev pub until_of : Thread → Option ℕ
 until_of Runnable = None
-until_of (Waits call since until) = soon until
+until_of (Waits call since until stage) = soon until
 
 -- the earliest moment until which a thread of the process waits
 abbrev pub process_until : ProcessState → Option ℕ

@@ -2,6 +2,9 @@
 
 pub mod ClockCalls
 pub mod LockWords
+pub mod Locks
+pub mod Events
+pub mod LockCalls
 pub mod FileTypes
 pub mod DescriptorCalls
 pub mod FileMeaning

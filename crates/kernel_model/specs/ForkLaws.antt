@@ -22,7 +22,7 @@ use Rattle.kernel_model.specs.Families.ForkCalls.{child_descriptor, child_kind, 
 use Rattle.kernel_model.specs.Families.Numbers.{made_more}
 use Rattle.kernel_model.specs.OwnChanges.{with_next_child}
 use Rattle.kernel_model.specs.Reply.{success}
-use Rattle.kernel_model.specs.State.{ProcessState, State, Table, no_locks, tree_of}
+use Rattle.kernel_model.specs.State.{ProcessState, State, Table, tree_of}
 use Rattle.kernel_model.specs.Step.{IsStep}
 use Rattle.kernel_model.specs.ThreadLaws.{IsCaller}
 use Rattle.kernel_model.specs.Valid.{IsValid}
@@ -62,7 +62,6 @@ pub record IsNumbered (p t : ℕ) (own : ProcessState) : Type 0 where
       ≡ record {
         threads = insert empty t Runnable;
         counts = record { objects = 0; threads = own.counts.threads; forks = 0; words = 0 };
-        locks = no_locks;
         depth = own.depth + 1;
       }
   -- the parent has counted two objects more, the child's and that of its open, and a child

@@ -28,6 +28,8 @@ pub mod ChildLaws
 pub mod WaitLaws
 pub mod PollLaws
 pub mod ThreadLaws
+pub mod LockLaws
+pub mod LockCallLaws
 pub mod ForkLaws
 pub mod OpenLaws
 pub mod ChannelLaws

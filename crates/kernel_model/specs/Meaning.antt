@@ -37,6 +37,8 @@ pub record Meaning : Type 0 where
   pub takes_memory : Bool
   -- whether its thread may wait in it
   pub may_wait : Bool
+  -- whether a thread that waits in it goes on because it was given a lock or signalled, and else because the call would be done
+  pub by_stage : Bool
   -- the moment by which the wait is over, by the moment at which the call was made: none where it may wait for ever
   pub deadline : Constants → ℕ → Option ℕ
   -- the numbers of the descriptors that it sends
@@ -56,6 +58,7 @@ answering errors reply = record {
   errors = errors;
   takes_memory = false;
   may_wait = false;
+  by_stage = false;
   deadline = λ constants since. None;
   sends = [];
 }

@@ -6,11 +6,13 @@ use Rattle.abi_base.specs.declared.errno.Errno.{Errno}
 use Rattle.abi_base.specs.declared.errno.Errno.TheVariants.{Success}
 use Rattle.abi_types.specs.declared.reply.Answer.{Answer}
 use Rattle.abi_types.specs.declared.reply.Answer.TheVariants as answer
+use Rattle.abi_types.specs.declared.reply.WordWrites.TheVariants.{Two}
 use Rattle.abi_types.specs.declared.status.Status.TheVariants.{Live}
 use Rattle.abi_types.specs.declared.thread.Thread.TheVariants.{Runnable}
 use Rattle.kernel_model.specs.Families.Children.{child_of}
 use Rattle.kernel_model.specs.Families.Numbers.{made_more, new_parts}
-use Rattle.kernel_model.specs.State.{State, ProcessState, Part, at_proc, at_status, counts_in, depth_in, no_locks}
+use Rattle.kernel_model.specs.Families.Locks.{handed_own, signalled_own, unlocked_own}
+use Rattle.kernel_model.specs.State.{State, ProcessState, Part, at_proc, at_status, counts_in, depth_in}
 
 -- ---- changes of a process
 
@@ -35,30 +37,34 @@ drawn_more words own = record own { counts = record own.counts { words = own.cou
 abbrev pub with_next_child : ProcessState → ProcessState
 with_next_child own = record own { counts = record own.counts { forks = own.counts.forks + 1 } }
 
--- The process as another program begins in it, by its thread t: no other thread is left, nobody waits, and so many random words more are drawn.
+-- The process as another program begins in it, by its thread t: no other thread is left, and so many random words more are drawn.
 abbrev pub begun_anew : ℕ → ℕ → ProcessState → ProcessState
 begun_anew words t own = record {
   threads = retain_keys own.threads (λ k. k == t);
   counts = record own.counts { words = own.counts.words + words };
-  locks = no_locks;
   depth = own.depth;
 }
 
--- what an ended process has left: no thread, nobody who waits, its counts, and its depth
+-- what an ended process has left: no thread, its counts, and its depth
 abbrev pub ended_process : Option ProcessState → ProcessState
-ended_process own = record { threads = empty; counts = counts_in own; locks = no_locks; depth = depth_in own }
+ended_process own = record { threads = empty; counts = counts_in own; depth = depth_in own }
 
 -- ---- what a call does
 
--- What a call does to its process where it succeeds: it keeps all, makes a thread, ends the thread that made the call, draws so many
--- random words, makes a child of the process, or lets another program begin in it, which draws so many words. Each may number objects too.
+-- What a call does to its process where it succeeds: it keeps all, makes a thread, lets go of the lock at an address with this word and ends
+-- the thread that made the call, draws so many random words, makes a child of the process, or lets another program begin in it, which draws so
+-- many words; it lets go of the lock at an address with this word, or it signals so many of the threads that wait at the condition variable at
+-- an address. And where its thread begins to wait at a condition variable, it hands on the lock at an address. Each may number objects too.
 pub data OwnChange : Type 0 where
   keeps_own : OwnChange
   makes_one : OwnChange
-  ends_one : OwnChange
+  ends_one : ℕ → ℕ → OwnChange
   draws_words : ℕ → OwnChange
   forks_one : OwnChange
   begins_anew : ℕ → OwnChange
+  lets_lock_go : ℕ → ℕ → OwnChange
+  signals_some : ℕ → ℕ → OwnChange
+  hands_lock_on : ℕ → OwnChange
 
 -- whether the error is that there is none
 abbrev pub is_success : Errno → Bool
@@ -70,14 +76,23 @@ abbrev pub is_done : Answer → Bool
 is_done (answer.Parked writes) = false
 is_done (answer.Reply reply) = is_success reply.errno
 
+-- whether a thread begins to wait at a condition variable: its word and that of the lock are written
+abbrev pub begins_to_sleep : Answer → Bool
+begins_to_sleep (answer.Parked (Two first second)) = true
+begins_to_sleep (answer.Parked writes) = false
+begins_to_sleep (answer.Reply reply) = false
+
 -- the process after the change by its thread t, where the call was answered so
 abbrev pub own_by : OwnChange → ℕ → Answer → ProcessState → ProcessState
 own_by keeps_own t given own = own
 own_by makes_one t given own = if is_done given then with_next_thread own else own
-own_by ends_one t given own = if is_done given then without_thread t own else own
+own_by (ends_one lock word) t given own = if is_done given then without_thread t (unlocked_own lock word t own) else own
 own_by (draws_words words) t given own = if is_done given then drawn_more words own else own
 own_by forks_one t given own = if is_done given then with_next_child own else own
 own_by (begins_anew words) t given own = if is_done given then begun_anew words t own else own
+own_by (lets_lock_go lock word) t given own = if is_done given then unlocked_own lock word t own else own
+own_by (signals_some condvar n) t given own = if is_done given then signalled_own condvar n own else own
+own_by (hands_lock_on lock) t given own = if begins_to_sleep given then handed_own lock own else own
 
 -- the process has changed so, and may have made objects
 abbrev pub IsChangedBy : (ProcessState → ProcessState) → Option ProcessState → Option ProcessState → Type 0
@@ -97,10 +112,13 @@ HasNextFree t (Some own) = IsSome (get own.threads t) × (get own.threads (next_
 abbrev pub AllowsChange : OwnChange → ℕ → Answer → Option ProcessState → Type 0
 AllowsChange keeps_own t given before = ⊤
 AllowsChange makes_one t given before = is_done given ≡ true → HasNextFree t before
-AllowsChange ends_one t given before = ⊤
+AllowsChange (ends_one lock word) t given before = ⊤
 AllowsChange (draws_words words) t given before = is_done given ≡ true → IsSome before
 AllowsChange forks_one t given before = is_done given ≡ true → IsSome before
 AllowsChange (begins_anew words) t given before = is_done given ≡ true → IsSome before
+AllowsChange (lets_lock_go lock word) t given before = ⊤
+AllowsChange (signals_some condvar n) t given before = ⊤
+AllowsChange (hands_lock_on lock) t given before = ⊤
 
 -- after a call of the thread t of process p that was answered so the process has changed as the call does, and may have ended with it
 abbrev pub LeavesOwn : OwnChange → ℕ → ℕ → Answer → State → State → Type 0

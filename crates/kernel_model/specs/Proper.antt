@@ -5,7 +5,10 @@ use Rattle.std.specs.List.{AllByRecursion}
 use Rattle.std.specs.FinMap.{get}
 use Rattle.abi_base.specs.declared.errno.Errno.{Errno}
 use Rattle.abi_base.specs.declared.errno.Errno.TheVariants.{Success, Nomem, Pipe}
+use Rattle.abi_types.specs.declared.reply.Answer.TheVariants as answer
 use Rattle.abi_types.specs.declared.reply.Reply.{Reply}
+use Rattle.abi_types.specs.declared.reply.WordWrite.{WordWrite}
+use Rattle.abi_types.specs.declared.reply.WordWrites.TheVariants.{Two}
 use Rattle.abi_types.specs.declared.constants.Constants.{Constants}
 use Rattle.abi_types.specs.declared.descriptor.Denial.TheVariants.{Outside}
 use Rattle.abi_types.specs.declared.descriptor.Descriptor.{Descriptor}
@@ -15,11 +18,12 @@ use Rattle.kernel_model.specs.Channels.{Channel, Send, carried_of, sends_after, 
 use Rattle.kernel_model.specs.Deadlines.{is_due, soon}
 use Rattle.kernel_model.specs.Meaning.{Meaning}
 use Rattle.kernel_model.specs.Families.ChannelCalls.{picked}
+use Rattle.kernel_model.specs.Families.Locks.{handed_own}
 use Rattle.kernel_model.specs.Outcome.{Outcome, OnReply, is_parked, replies}
-use Rattle.kernel_model.specs.OwnChanges.{AllowsChange, LeavesOwn, born_of, made_parts}
+use Rattle.kernel_model.specs.OwnChanges.{AllowsChange, LeavesOwn, begins_to_sleep, born_of, made_parts}
 use Rattle.kernel_model.specs.Reply.{denied}
 use Rattle.kernel_model.specs.Sight.{process_parts, reached}
-use Rattle.kernel_model.specs.State.{State, Table, Part, Update, at_proc, at_status, has_part, part_of, put_all, set_chan}
+use Rattle.kernel_model.specs.State.{State, ProcessState, Table, Part, Update, at_proc, at_status, has_part, part_of, put_all, set_chan, set_process}
 use Rattle.kernel_model.specs.Step.{tick}
 use Rattle.kernel_model.specs.Valid.{IsNearlyValid}
 use Rattle.kernel_model.specs.View.{View, restrict, whole}
@@ -89,10 +93,18 @@ abbrev pub IsDeniedOutside : List Errno → Option ℕ → Outcome → Type 0
 IsDeniedOutside errors None o = IsPlain errors o
 IsDeniedOutside errors (Some component) o = o ≡ replies (denied (Outside component))
 
--- This holds of the outcome of a call; or the call is one in which a thread may wait, and it does, with nothing set.
-abbrev pub OrWaits : Bool → Outcome → Type 0 → Type 0
-OrWaits false o P = P
-OrWaits true o P = ((is_parked o.answer ≡ true) × (o.updates ≡ [])) ⊎ P
+-- The outcome of a call of process p, that has this of its own, sets nothing; or its thread begins to wait at a condition variable, and hands on
+-- the lock whose word it writes.
+pub data SetsWaiters (p : ℕ) (own : Option ProcessState) (o : Outcome) : Type 0 where
+  nothing_set : begins_to_sleep o.answer ≡ false → o.updates ≡ [] → SetsWaiters p own o
+  handed_on : (condvar lock : WordWrite) (was : ProcessState) → o.answer ≡ answer.Parked (Two condvar lock) → own ≡ Some was
+      → o.updates ≡ set_process p (handed_own lock.address was) ∷ [] → SetsWaiters p own o
+
+-- This holds of the outcome of a call of process p, that has this of its own; or the call is one in which a thread may wait, and it does, with
+-- nothing set but how others wait in its process.
+abbrev pub OrWaits : Bool → ℕ → Option ProcessState → Outcome → Type 0 → Type 0
+OrWaits false p own o P = P
+OrWaits true p own o P = ((is_parked o.answer ≡ true) × SetsWaiters p own o) ⊎ P
 
 -- How a thread waits in a call in which it may.
 pub record IsPatient (m : Meaning) : Type 0 where
@@ -100,8 +112,8 @@ pub record IsPatient (m : Meaning) : Type 0 where
   pub patient : (constants : Constants) (v : View) (who : Who) (table : Table) (before : ℕ) → before ≤ v.clock
       → is_parked (m.effect constants v who table).answer ≡ true
       → is_parked (m.effect constants (record v { clock = before }) who table).answer ≡ true
-  -- once its deadline has come it doesn't wait
-  pub due : (constants : Constants) (v : View) (who : Who) (table : Table) → is_due v.clock (soon (m.deadline constants who.since)) ≡ true
+  -- once its deadline has come it doesn't wait, unless it goes on by how far its wait has come
+  pub due : m.by_stage ≡ false → (constants : Constants) (v : View) (who : Who) (table : Table) → is_due v.clock (soon (m.deadline constants who.since)) ≡ true
       → is_parked (m.effect constants v who table).answer ≡ false
   -- no path of it leads outside
   pub inside : (v : View) (table : Table) → m.outside v table ≡ None
@@ -135,7 +147,7 @@ pub record IsProper (m : Meaning) : Type 0 where
   -- where its path leads outside it is denied for that alone; else its thread waits, where it may, with nothing set, or its reply
   -- is a success, or one of its errors with nothing set; and of these none is lack of memory where that may be
   pub plain : (constants : Constants) (v : View) (who : Who) (table : Table)
-      → OrWaits m.may_wait (m.effect constants v who table) (IsDeniedOutside m.errors (m.outside v table) (m.effect constants v who table))
+      → OrWaits m.may_wait who.pid (v.process who.pid) (m.effect constants v who table) (IsDeniedOutside m.errors (m.outside v table) (m.effect constants v who table))
   pub waits : m.may_wait ≡ true → IsPatient m
   pub lacks : m.takes_memory ≡ true → AllByRecursion (λ errno. errno ≢ Nomem) m.errors
   -- it sets nothing that another process has of its own, but of the child that it makes

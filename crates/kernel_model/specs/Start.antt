@@ -12,7 +12,7 @@ use Rattle.abi_types.specs.declared.status.Status.TheVariants.{Live}
 use Rattle.abi_types.specs.declared.stream.Stream.{Stream}
 use Rattle.abi_types.specs.declared.thread.Thread.TheVariants.{Runnable}
 use Rattle.tree_model.specs.Tree.{is_directory_kind}
-use Rattle.kernel_model.specs.State.{State, Table, ProcessState, Tree, no_locks, no_state}
+use Rattle.kernel_model.specs.State.{State, Table, ProcessState, Tree, no_state}
 
 -- Objects that the launch makes have numbers of process 0xffffffff: 1 to 3 are the standard streams, 4 is the root of
 -- the file tree, and from 5 on come the tree's other nodes and then the opens of the granted descriptors.
@@ -57,7 +57,7 @@ canary_words = 16
 -- waits, and depth 0.
 abbrev pub first_process : ProcessState
 first_process =
-    record { threads = insert empty 1 Runnable; counts = record { objects = 0; threads = 1; forks = 0; words = canary_words }; locks = no_locks; depth = 0 }
+    record { threads = insert empty 1 Runnable; counts = record { objects = 0; threads = 1; forks = 0; words = canary_words }; depth = 0 }
 
 -- a standard stream of which so much can be read
 abbrev pub unwritten : List ℕ → Stream

@@ -9,7 +9,6 @@ use Rattle.abi_types.specs.declared.open_kind.OpenKind.{OpenKind}
 use Rattle.abi_types.specs.declared.status.Status.{Status}
 use Rattle.abi_types.specs.declared.stream.Stream.{Stream}
 use Rattle.abi_types.specs.declared.thread.Thread.{Thread}
-use Rattle.abi_types.specs.declared.waiter.Waiter.{Waiter}
 use Rattle.kernel_model.specs.Channels.{Channel}
 pub use Rattle.fd_table.specs.Table.{Table}
 pub use Rattle.tree_model.specs.Tree.{Tree, Names}
@@ -18,25 +17,11 @@ pub use Rattle.tree_model.specs.Tree.{Tree, Names}
 abbrev pub Threads : Type 0
 Threads = FinMap nat_cmp Thread
 
--- Who waits in a process: for each address of a lock the threads that wait for it, in order; for each address of a condition
--- variable those that wait there, in order; the threads to which a lock was given and those that were signalled, until they go
--- on; and those whose wait at a condition variable was over before they were signalled, while they wait for its lock.
-pub record Locks : Type 0 where
-  pub waiting : FinMap nat_cmp (List Waiter)
-  pub at_conditions : FinMap nat_cmp (List ℕ)
-  pub granted : List ℕ
-  pub signalled : List ℕ
-  pub late : List ℕ
-
-abbrev pub no_locks : Locks
-no_locks = record { waiting = empty; at_conditions = empty; granted = []; signalled = []; late = [] }
-
--- What a process has of its own beside its descriptors: its threads, what it has made so far, who waits, and how many forks lie
--- between it and process 0.
+-- What a process has of its own beside its descriptors: its threads, what it has made so far, and how many forks lie between it and
+-- process 0.
 pub record ProcessState : Type 0 where
   pub threads : Threads
   pub counts : Counts
-  pub locks : Locks
   pub depth : ℕ
 
 -- the moment in nanoseconds; each process's descriptors, what else it has of its own, and its status; the opens that
@@ -99,11 +84,6 @@ no_counts = record { objects = 0; threads = 0; forks = 0; words = 0 }
 abbrev pub counts_in : Option ProcessState → Counts
 counts_in None = no_counts
 counts_in (Some own) = own.counts
-
--- who waits in it; in one that was never made nobody does
-abbrev pub locks_in : Option ProcessState → Locks
-locks_in None = no_locks
-locks_in (Some own) = own.locks
 
 -- its depth; one that was never made has none, and 0 stands for that
 abbrev pub depth_in : Option ProcessState → ℕ

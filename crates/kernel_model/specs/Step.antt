@@ -101,7 +101,7 @@ outside S who call = outside_by (restrict (tick S) (sight S who call)) who call
 -- the state that a call leaves before anything is released: where it doesn't come to a reply, its thread waits in it
 abbrev pub unreleased : Constants → State → Who → Call → State
 unreleased constants S who call =
-    waits_if (outcome constants S who call).answer who (waiting constants call who.since) (put_all (outcome constants S who call).updates (tick S))
+    waits_if (outcome constants S who call).answer who (waiting constants call who (S.clock + 1000)) (put_all (outcome constants S who call).updates (tick S))
 
 -- the answer to a call, and the state after it
 abbrev pub step_answer : Constants → State → Who → Call → Answer

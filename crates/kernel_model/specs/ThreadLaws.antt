@@ -14,7 +14,7 @@ use Rattle.abi_types.specs.declared.reply.Reply.{Reply}
 use Rattle.abi_types.specs.declared.reply.WordWrites.TheVariants.{One}
 use Rattle.abi_types.specs.declared.thread.Thread.TheVariants.{Runnable}
 use Rattle.abi_types.specs.declared.who.Who.{Who}
-use Rattle.kernel_model.specs.Families.LockWords.{unlocked}
+use Rattle.kernel_model.specs.Families.Locks.{hands_on, leaves, refuses, release_of, released_threads, released_word}
 use Rattle.kernel_model.specs.PollLaws.{shown}
 use Rattle.kernel_model.specs.Reply.{refused, success}
 use Rattle.kernel_model.specs.State.{ProcessState, State}
@@ -58,36 +58,36 @@ ThreadIsMade =
 
 -- ---- the words of locks
 
--- What becomes of a lock's word as thread t lets go of the lock, where nobody waits. `high` is its bit 31, which says nothing of who has the
+-- What it comes to that thread t lets go of a lock, by the lock's word. `high` is its bit 31, which says nothing of who has the
 -- lock: bit 30 is that a thread has it to write, whose number the bits below are, and else these count the threads that have it to read.
 pub record LocksAreLetGo : Type 0 where
   -- one that nobody has can't be let go
-  pub free : (t high : ℕ) → unlocked t (high * 2 ^ 31) ≡ None
+  pub free : (t high : ℕ) → release_of t (high * 2 ^ 31) ≡ refuses
   -- nor can one that another thread has to write
-  pub other : (t high owner : ℕ) → owner < 2 ^ 30 → owner ≢ t → unlocked t (high * 2 ^ 31 + 2 ^ 30 + owner) ≡ None
-  -- that of the thread that has it to write is free
-  pub writer : (t high : ℕ) → t < 2 ^ 30 → unlocked t (high * 2 ^ 31 + 2 ^ 30 + t) ≡ Some 0
-  -- of several that have it to read one less has it, and of one nobody
-  pub readers : (t high readers : ℕ) → 1 < readers → readers < 2 ^ 30 → unlocked t (high * 2 ^ 31 + readers) ≡ Some (high * 2 ^ 31 + (readers - 1))
-  pub reader : (t high : ℕ) → unlocked t (high * 2 ^ 31 + 1) ≡ Some 0
+  pub other : (t high owner : ℕ) → owner < 2 ^ 30 → owner ≢ t → release_of t (high * 2 ^ 31 + 2 ^ 30 + owner) ≡ refuses
+  -- that of the thread that has it to write is handed on
+  pub writer : (t high : ℕ) → t < 2 ^ 30 → release_of t (high * 2 ^ 31 + 2 ^ 30 + t) ≡ hands_on
+  -- of several that have it to read one less has it, and of one it is handed on
+  pub readers : (t high readers : ℕ) → 1 < readers → readers < 2 ^ 30 → release_of t (high * 2 ^ 31 + readers) ≡ leaves (high * 2 ^ 31 + (readers - 1))
+  pub reader : (t high : ℕ) → release_of t (high * 2 ^ 31 + 1) ≡ hands_on
 
 -- ---- thread_exit
 
 -- A thread that may not let go of the lock is answered PERM, and goes on. Else the reply writes the lock's word.
 pub record ExitLetsGo : Type 0 where
-  pub refused : (constants : Constants) (S : State) (who : Who) (lock word scope : ℕ) → IsSome (get S.tables who.pid) → unlocked who.tid word ≡ None
+  pub refused : (constants : Constants) (S : State) (who : Who) (lock word scope : ℕ) → IsSome (get S.tables who.pid) → release_of who.tid word ≡ refuses
       → step_answer constants S who (ThreadExit lock word scope) ≡ answer.Reply (refused Perm)
-  pub writes : (constants : Constants) (S : State) (who : Who) (lock word scope new : ℕ) → IsSome (get S.tables who.pid)
-      → unlocked who.tid word ≡ Some new
+  pub writes : (constants : Constants) (S : State) (who : Who) (lock word scope new : ℕ) (own : ProcessState) → IsSome (get S.tables who.pid)
+      → get S.processes who.pid ≡ Some own → released_word (release_of who.tid word) lock own.threads ≡ Some new
       → step_answer constants S who (ThreadExit lock word scope)
       ≡ answer.Reply (record (success 0 0) { writes = One (record { address = lock; word = new }) })
 
--- A thread_exit that succeeds ends its thread alone, where another one is there, and changes nothing else. With the last thread it ends its
+-- A thread_exit that succeeds ends its thread alone, where another one is there, and hands its lock on; it changes nothing else. With the last thread it ends its
 -- process, as a proc_exit of 0 does.
 pub record ExitEndsOne : Type 0 where
   pub one : (constants : Constants) (S : State) (who : Who) (lock word scope : ℕ) (reply : Reply) (T : State) (own : ProcessState) (t : ℕ) → IsValid S
       → IsStep constants S who (ThreadExit lock word scope) (answer.Reply reply) T → reply.errno ≡ Success → get S.processes who.pid ≡ Some own
-      → t ≢ who.tid → IsSome (get own.threads t) → T ≡ with_own S who.pid (record own { threads = remove own.threads who.tid })
+      → t ≢ who.tid → IsSome (get own.threads t) → T ≡ with_own S who.pid (record own { threads = remove (released_threads (release_of who.tid word) lock own.threads) who.tid })
   pub last : (constants : Constants) (S : State) (who : Who) (lock word scope : ℕ) (reply : Reply) (T : State) (own : ProcessState) → IsValid S
       → IsStep constants S who (ThreadExit lock word scope) (answer.Reply reply) T → reply.errno ≡ Success → get S.processes who.pid ≡ Some own
       → ((t : ℕ) → t ≢ who.tid → get own.threads t ≡ None) → T ≡ step_state constants S who (ProcExit 0)

@@ -14,8 +14,10 @@ use Rattle.abi_types.specs.declared.reply.Payload.TheVariants.{Child}
 use Rattle.abi_types.specs.declared.thread.Thread.{Thread}
 use Rattle.abi_types.specs.declared.thread.Thread.TheVariants.{Runnable}
 use Rattle.abi_types.specs.declared.who.Who.{Who}
+use Rattle.kernel_model.specs.Families.Locks.{called, given, sleeps_at, waits_for}
+use Rattle.kernel_model.specs.Outcome.{is_parked}
 pub use Rattle.kernel_model.specs.OwnChanges.{is_success, is_done}
-use Rattle.kernel_model.specs.OwnChanges.{next_child}
+use Rattle.kernel_model.specs.OwnChanges.{begins_to_sleep, next_child}
 use Rattle.kernel_model.specs.Start.{canary_words}
 use Rattle.kernel_model.specs.State.{State, ProcessState, thread_of, counts_in}
 use Rattle.kernel_model.specs.Waits.{waiting}
@@ -59,18 +61,41 @@ first_result (answer.Reply reply) = reply.r1
 abbrev pub next_number : State → ℕ → ℕ
 next_number S p = (counts_in (get S.processes p)).threads + 1
 
--- What a thread that its call doesn't end is after the call, by the answer: a reply leaves it what it was, and else it waits so.
+-- whether the call may give locks to threads that wait, or signal them: it lets a lock go, by itself, at the end of its thread or as that
+-- begins to wait at a condition variable, or it signals
+abbrev pub moves_waiters : Call → Answer → Bool
+moves_waiters (call.LockUnlock lock word scope) given = is_done given
+moves_waiters (call.ThreadExit lock word scope) given = is_done given
+moves_waiters (call.CondvarSignal condvar word scope n) given = is_done given
+moves_waiters (call.Poll subscriptions) given = begins_to_sleep given
+moves_waiters _ answered = false
+
+-- what a thread is that the call of another one doesn't end: what it was; or it waits as it did, and was given the lock for which it waited, or
+-- was signalled at its condition variable
+pub data IsMoved : Option Thread → Option Thread → Type 0 where
+  stays : (thread : Option Thread) → IsMoved thread thread
+  is_given : (lock : ℕ) (thread : Thread) → IsSome (waits_for lock thread) → IsMoved (Some thread) (Some (given thread))
+  is_signalled : (condvar : ℕ) (thread : Thread) → IsSome (sleeps_at condvar thread) → IsMoved (Some thread) (Some (called thread))
+
+-- What a thread that its call doesn't end is after the call, by the answer: it waits so, or a reply leaves it what it was. But one that waits, and
+-- yet makes a call, may be given the lock for which it waits, or be signalled.
 abbrev pub IsCallerAfter : Thread → Answer → Option Thread → Option Thread → Type 0
 IsCallerAfter waits (answer.Parked writes) before after = after ≡ option_map (λ (thread : Thread). waits) before
-IsCallerAfter waits (answer.Reply reply) before after = after ≡ before
+IsCallerAfter waits (answer.Reply reply) before after = IsMoved before after
 
 -- What a call that was answered so leaves of the threads of its process, if that lives on.
 pub record LeavesThreads (constants : Constants) (S : State) (who : Who) (call : Call) (given : Answer) (T : State) : Type 0 where
   -- the thread that made the call is what its answer says, unless the call ends it; then it is there no more
-  pub caller : ends_caller call given ≡ false → IsCallerAfter (waiting constants call who.since) given (thread_of S who.pid who.tid) (thread_of T who.pid who.tid)
+  pub caller : ends_caller call given ≡ false → IsCallerAfter (waiting constants call who (S.clock + 1000)) given (thread_of S who.pid who.tid)
+      (thread_of T who.pid who.tid)
+  -- where it has a reply, and the call gives no lock and signals none, it is what it was
+  pub goes_on : moves_waiters call given ≡ false → ends_caller call given ≡ false → is_parked given ≡ false
+      → thread_of T who.pid who.tid ≡ thread_of S who.pid who.tid
   pub ended : ends_caller call given ≡ true → thread_of T who.pid who.tid ≡ None
-  -- each other thread that was there is what it was, unless the call ends the others
-  pub others : (t : ℕ) → t ≢ who.tid → IsSome (thread_of S who.pid t) → ends_others call given ≡ false → thread_of T who.pid t ≡ thread_of S who.pid t
+  -- each other thread that was there is what it was, unless the call ends the others, or gives it a lock or signals it
+  pub others : (t : ℕ) → t ≢ who.tid → IsSome (thread_of S who.pid t) → ends_others call given ≡ false → IsMoved (thread_of S who.pid t) (thread_of T who.pid t)
+  pub same : moves_waiters call given ≡ false → (t : ℕ) → t ≢ who.tid → IsSome (thread_of S who.pid t) → ends_others call given ≡ false
+      → thread_of T who.pid t ≡ thread_of S who.pid t
   -- and where it does that, no other one is there
   pub alone : ends_others call given ≡ true → (t : ℕ) → t ≢ who.tid → thread_of T who.pid t ≡ None
   -- a thread that was not there was made by the call: it has the next number, and runs

@@ -15,7 +15,7 @@ use Rattle.kernel_model.specs.Families.Children.{IsBorn}
 use Rattle.kernel_model.specs.Families.Numbers.{object_of}
 use Rattle.kernel_model.specs.Fits.{HasRightsOf}
 use Rattle.kernel_model.specs.Release.{holders, carriers, is_channel_kept, is_node_kept, is_of_process, is_reader, is_writer}
-use Rattle.kernel_model.specs.State.{State, ProcessState, Table, tree_of, threads_of, thread_of, counts_in, locks_in, no_locks}
+use Rattle.kernel_model.specs.State.{State, ProcessState, Table, tree_of, threads_of, thread_of, counts_in}
 use Rattle.kernel_model.specs.Waits.{MayWait}
 
 -- the open is there, and the descriptor's rights are among those of its type
@@ -66,8 +66,8 @@ AreJoined opens chans = (c : ℕ) (channel : Channel) → get chans c ≡ Some c
 -- one process, read one channel or write one. A process has a table, what is its own and a status, or none of these, and an ended
 -- process has no descriptor and no thread. No thread that a process has, and no open, no node and no channel that it made, is numbered
 -- beyond its count. Each process but process 0 is a child that another one has counted. The file tree is a tree. A thread waits only in a
--- call in which it may. Each channel is one that there may be, with an end for each side that hasn't gone, and what waits in it is named.
--- Nobody waits for a lock or at a condition variable, since no call makes a thread wait there yet.
+-- call in which it may, and its wait may have come so far. Each channel is one that there may be, with an end for each side that hasn't gone,
+-- and what waits in it is named.
 pub record IsNearlyValid (S : State) : Type 0 where
   pub named : (p n : ℕ) (table : Table) (d : Descriptor) → get S.tables p ≡ Some table → get table n ≡ Some d → IsNamed (get S.opens d.id) d
   pub behind : (o : ℕ) (kind : OpenKind) → get S.opens o ≡ Some kind → HasBehind S kind
@@ -83,7 +83,6 @@ pub record IsNearlyValid (S : State) : Type 0 where
   pub tree : IsTree (tree_of S)
   pub waits : (p t : ℕ) → MayWait (thread_of S p t)
   pub channels : AreJoined S.opens S.chans
-  pub nobody : (p : ℕ) → locks_in (get S.processes p) ≡ no_locks
 
 -- a state is valid where it is nearly so, each open is held, each node is the root, has a name or is open, and no channel is over
 pub record IsValid (S : State) : Type 0 where

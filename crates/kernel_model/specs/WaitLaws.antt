@@ -1,6 +1,6 @@
 -- What holds of threads that wait, of their wakes and of idle jumps: the statements that are the contracts of the functions of
 -- src/wait_laws.rt.
-use Rattle.std.specs.Prelude.{◌≡◌, ◌≢◌, ◌⊎◌, ℕ, ◌+◌, ◌^◌, ◌<◌, ◌≤◌, true, false, List, Option, None, Some, IsSome}
+use Rattle.std.specs.Prelude.{◌≡◌, ◌≢◌, ◌⊎◌, ℕ, ◌+◌, ◌^◌, ◌==◌, ◌<◌, ◌≤◌, Bool, true, false, List, Option, None, Some, IsSome, if◌then◌else◌}
 use Rattle.std.specs.FinMap.{get}
 use Rattle.abi_base.specs.declared.errno.Errno.TheVariants.{Success}
 use Rattle.abi_base.specs.declared.grant.Grant.{Grant}
@@ -9,24 +9,31 @@ use Rattle.abi_types.specs.declared.constants.Constants.{Constants}
 use Rattle.abi_types.specs.declared.reply.Answer.{Answer}
 use Rattle.abi_types.specs.declared.reply.Answer.TheVariants as answer
 use Rattle.abi_types.specs.declared.reply.Reply.{Reply}
+use Rattle.abi_types.specs.declared.reply.WordWrite.{WordWrite}
 use Rattle.abi_types.specs.declared.reply.WordWrites.{WordWrites}
+use Rattle.abi_types.specs.declared.reply.WordWrites.TheVariants.{Two}
 use Rattle.abi_types.specs.declared.status.Status.{Status}
 use Rattle.abi_types.specs.declared.status.Status.TheVariants.{Live}
+use Rattle.abi_types.specs.declared.thread.Stage.{Stage}
+use Rattle.abi_types.specs.declared.thread.Stage.TheVariants.{Queued}
 use Rattle.abi_types.specs.declared.thread.Thread.TheVariants.{Runnable, Waits}
 use Rattle.abi_types.specs.declared.wake.WakeIn.{WakeIn}
 use Rattle.abi_types.specs.declared.wake.WakeIn.TheVariants as wake
 use Rattle.abi_types.specs.declared.who.Who.{Who}
 use Rattle.kernel_model.specs.Calls.{refusal_of, takes_memory}
 use Rattle.kernel_model.specs.Deadlines.{idle_state, least_deadline}
+use Rattle.maps.specs.Closure.{changed}
+use Rattle.kernel_model.specs.Families.Locks.{handed_own, with_word}
 use Rattle.kernel_model.specs.Laws.{HasSameProcess, HasSameSight, IsKilled}
 use Rattle.kernel_model.specs.Outcome.{is_parked}
 use Rattle.kernel_model.specs.Start.{start_state}
-use Rattle.kernel_model.specs.State.{State, Part, Tree, at_proc, same_part, Agree, counts_in, thread_of}
+use Rattle.kernel_model.specs.OwnChanges.{begins_to_sleep}
+use Rattle.kernel_model.specs.State.{State, ProcessState, Part, Tree, at_proc, same_part, Agree, counts_in, thread_of}
 use Rattle.kernel_model.specs.Step.{end_state, outside, step_answer, step_state, tick, IsStep, IsUntouched}
-use Rattle.kernel_model.specs.Threads.{ends_caller, ends_others, makes_child, makes_thread, next_number, LeavesCounts}
+use Rattle.kernel_model.specs.Threads.{ends_caller, ends_others, makes_child, makes_thread, moves_waiters, next_number, LeavesCounts}
 use Rattle.kernel_model.specs.Valid.{IsValid}
 use Rattle.kernel_model.specs.Waits.{may_wait, resumed, waiting, with_thread, HasDeadlines, WaitsIn}
-use Rattle.kernel_model.specs.Wakes.{is_ready, IsWake}
+use Rattle.kernel_model.specs.Wakes.{is_ready, may_queue, woken, IsWake}
 
 -- ---- calls in which threads wait
 
@@ -38,13 +45,24 @@ ParkingIsAllowed =
 
 -- the state in which the thread waits in the call that it made: beside that only the clock has moved
 abbrev pub parked : Constants → State → Who → Call → State
-parked constants S who call = with_thread (tick S) who.pid who.tid (waiting constants call who.since)
+parked constants S who call = with_thread (tick S) who.pid who.tid (waiting constants call who (S.clock + 1000))
 
--- A call in which its thread waits changes only the clock and this thread of a valid state.
-abbrev pub ParkingKeeps : Type 0
-ParkingKeeps =
-    (constants : Constants) (S : State) (who : Who) (call : Call) (writes : WordWrites) (T : State) → IsStep constants S who call (answer.Parked writes) T
-    → IsValid S → T ≡ parked constants S who call
+-- the state in which the process p has changed so
+abbrev pub with_changed : State → ℕ → (ProcessState → ProcessState) → State
+with_changed S p f = record S { processes = changed (λ q own. if q == p then f own else own) S.processes }
+
+-- the same, where it begins to wait at a condition variable: its lock was handed on first
+abbrev pub asleep : Constants → State → Who → Call → ℕ → State
+asleep constants S who call lock =
+    with_thread (with_changed (tick S) who.pid (handed_own lock)) who.pid who.tid (waiting constants call who (S.clock + 1000))
+
+-- A call in which its thread waits changes only the clock and this thread of a valid state, and where it begins to wait at a condition variable
+-- with a lock, how others wait for that.
+pub record ParkingKeeps : Type 0 where
+  pub alone : (constants : Constants) (S : State) (who : Who) (call : Call) (writes : WordWrites) (T : State)
+      → IsStep constants S who call (answer.Parked writes) T → IsValid S → begins_to_sleep (answer.Parked writes) ≡ false → T ≡ parked constants S who call
+  pub asleep : (constants : Constants) (S : State) (who : Who) (call : Call) (condvar lock : WordWrite) (T : State)
+      → IsStep constants S who call (answer.Parked (Two condvar lock)) T → IsValid S → T ≡ asleep constants S who call lock.address
 
 -- ---- threads that are ready
 
@@ -60,8 +78,8 @@ ReadyStays =
 -- A thread of a valid state is ready once its deadline has come.
 abbrev pub DueIsReady : Type 0
 DueIsReady =
-    (constants : Constants) (S : State) (p t : ℕ) (call : Call) (since until : ℕ) → IsValid S → HasDeadlines constants S
-    → thread_of S p t ≡ Some (Waits call since (Some until)) → until ≤ S.clock → is_ready constants S p t ≡ true
+    (constants : Constants) (S : State) (p t : ℕ) (call : Call) (since until : ℕ) (stage : Stage) → IsValid S → HasDeadlines constants S
+    → thread_of S p t ≡ Some (Waits call since (Some until) stage) → until ≤ S.clock → is_ready constants S p t ≡ true
 
 -- So is one of a state in which its call sees the same: whether a thread is ready hangs on what its call sees alone.
 abbrev pub ReadyDecided : Type 0
@@ -75,13 +93,16 @@ ReadyDecided =
 abbrev pub ReadyHasWake : Type 0
 ReadyHasWake =
     (constants : Constants) (S : State) (who : Who) (call : Call) (word : ℕ) → WaitsIn S who call → is_ready constants S who.pid who.tid ≡ true
-    → IsWake constants S who call (wake.Plain word) (step_answer constants (resumed S who) who call) (step_state constants (resumed S who) who call)
+    → IsWake constants S who call (wake.Plain word) (step_answer constants (resumed S who) who (with_word word call))
+    (step_state constants (resumed S who) who (with_word word call))
 
--- Each step of the call from there has one, so a wake of a ready thread ends its wait.
+-- Each step of the call from there is a wake of a ready thread: it ends the wait, or the thread has left its condition variable and waits for
+-- the lock.
 abbrev pub WakeEndsWait : Type 0
 WakeEndsWait =
-    (constants : Constants) (S : State) (who : Who) (call : Call) (answered : Answer) (T : State) → WaitsIn S who call
-    → is_ready constants S who.pid who.tid ≡ true → IsStep constants (resumed S who) who call answered T → is_parked answered ≡ false
+    (constants : Constants) (S : State) (who : Who) (call : Call) (word : ℕ) (answered : Answer) (T : State) → WaitsIn S who call
+    → is_ready constants S who.pid who.tid ≡ true → IsStep constants (resumed S who) who (with_word word call) answered T
+    → is_parked answered ≡ true → may_queue call who.stage ≡ true
 
 -- The state in which a thread runs that waited differs in nothing but what this thread does.
 pub record ResumesOnly (S : State) (who : Who) (R : State) : Type 0 where
@@ -100,15 +121,18 @@ abbrev pub ResumedSeesSame : Type 0
 ResumedSeesSame = (S T : State) (who : Who) (call : Call) → HasSameSight S T who call → HasSameSight (resumed S who) (resumed T who) who call
 
 -- A wake takes 1000 nanoseconds and changes nothing of other processes but of those that the release after it kills. Where its process
--- lives on the thread runs, unless its call ends it; each other thread is what it was, unless the call ends the others; a thread that
--- was not there was made by the call; and the process counts what the call makes.
+-- lives on the thread runs, unless its call ends it, or it has left its condition variable and waits for the lock; each other thread is what it
+-- was, unless the call ends the others, or gives locks to those that wait or signals them; a thread that was not there was made by the
+-- call; and the process counts what the call makes.
 pub record WakesOnly (S : State) (who : Who) (call : Call) (answered : Answer) (T : State) : Type 0 where
   pub clock : T.clock ≡ S.clock + 1000
   pub others : makes_child call answered ≡ false → (q : ℕ) → q ≢ who.pid → HasSameProcess T S q ⊎ IsKilled S T q
   pub runs : get T.statuses who.pid ≡ Some Live → IsSome (thread_of S who.pid who.tid) → ends_caller call answered ≡ false
-      → thread_of T who.pid who.tid ≡ Some Runnable
+      → is_parked answered ≡ false → thread_of T who.pid who.tid ≡ Some Runnable
+  pub queues : get T.statuses who.pid ≡ Some Live → IsSome (thread_of S who.pid who.tid) → is_parked answered ≡ true
+      → (word : ℕ) × (late : Bool) × (thread_of T who.pid who.tid ≡ Some (Waits (with_word word call) who.since None (Queued T.clock late)))
   pub threads : get T.statuses who.pid ≡ Some Live → (t : ℕ) → t ≢ who.tid → IsSome (thread_of S who.pid t) → ends_others call answered ≡ false
-      → thread_of T who.pid t ≡ thread_of S who.pid t
+      → moves_waiters call answered ≡ false → thread_of T who.pid t ≡ thread_of S who.pid t
   pub made : get T.statuses who.pid ≡ Some Live → (t : ℕ) → thread_of S who.pid t ≡ None → IsSome (thread_of T who.pid t)
       → (makes_thread call answered ≡ true) × (t ≡ next_number S who.pid) × (thread_of T who.pid t ≡ Some Runnable)
   pub counts : LeavesCounts call answered (counts_in (get S.processes who.pid)) (counts_in (get T.processes who.pid))
@@ -124,23 +148,30 @@ WakeMovesOnly =
     (constants : Constants) (S : State) (who : Who) (call : Call) (given : WakeIn) (answered : Answer) (T : State) → IsWake constants S who call given answered T
     → WakesOnly S who call answered T
 
+-- Nor does a wake of a valid state give a lock to a thread that waits, or signal one.
+abbrev pub WakeMovesNone : Type 0
+WakeMovesNone =
+    (constants : Constants) (S : State) (who : Who) (call : Call) (given : WakeIn) (answered : Answer) (T : State) → IsWake constants S who call given answered T
+    → IsValid S → WaitsIn S who call → moves_waiters call answered ≡ false
+
 -- A wake that answers an error, FAULT and lack of memory among them, changes only the clock of a valid state, and the thread runs.
 abbrev pub WakeErrorKeeps : Type 0
 WakeErrorKeeps =
     (constants : Constants) (S : State) (who : Who) (call : Call) (given : WakeIn) (reply : Reply) (T : State)
     → IsWake constants S who call given (answer.Reply reply) T → IsValid S → reply.errno ≢ Success → T ≡ tick (resumed S who)
 
--- After a wake each part that its call does not touch and that the release does not end has the value it had.
+-- After a wake each part that its call, with the word that its lock has now, does not touch and that the release does not end has the value it had.
 abbrev pub WakeOthersStay : Type 0
 WakeOthersStay =
     (constants : Constants) (S : State) (who : Who) (call : Call) (given : WakeIn) (answered : Answer) (T : State) (q : Part)
-    → IsWake constants S who call given answered T → IsUntouched constants (resumed S who) who call q → Agree T S q
+    → IsWake constants S who call given answered T → IsUntouched constants (resumed S who) who (woken call given) q → Agree T S q
 
 -- ---- idle jumps
 
 -- the thread waits in some call until this moment, which is before 2^62
 abbrev pub WaitsUntil : State → ℕ → ℕ → ℕ → Type 0
-WaitsUntil S p t until = (call : Call) × (since : ℕ) × (thread_of S p t ≡ Some (Waits call since (Some until))) × (until < 2 ^ 62)
+WaitsUntil S p t until =
+    (call : Call) × (since : ℕ) × (stage : Stage) × (thread_of S p t ≡ Some (Waits call since (Some until) stage)) × (until < 2 ^ 62)
 
 -- the deadline is the least of all threads', and there is none where none has one
 abbrev pub IsLeastDeadline : State → Option ℕ → Type 0

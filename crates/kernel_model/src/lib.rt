@@ -6,6 +6,7 @@ mod call_bounds;
 mod channel_laws;
 mod fork_laws;
 pub mod laws;
+mod lock_laws;
 mod open_laws;
 mod poll_laws;
 mod thread_laws;
@@ -22,6 +23,10 @@ pub use laws::{
     process_numbers_are_small, reads_sight, refusal_names_lack, refusals_come_first,
     replies_are_listed, sight_decides, sight_is_reached, start_is_valid, step_decided,
     step_keeps_valid, steps_move_only, waited_keeps_threads, waiting_was_held,
+};
+pub use lock_laws::{
+    conditions_are_awaited, locks_are_asked, locks_are_handed_on, locks_are_let_go,
+    signals_come_in_turn,
 };
 pub use open_laws::{open_is_listed, opens_lead_below};
 pub use poll_laws::{polls_await_clocks, polls_await_soonest, polls_tell_ready};

@@ -13,3 +13,5 @@ pub mod Polling
 pub mod Threads
 pub mod OwnCalls
 pub mod Holding
+pub mod FewThreads
+pub mod LockAnswers

@@ -2,19 +2,22 @@
 --     is_given, is_not_given      what a test says by a number that was given, or not
 --     last_is      whether a thread is the last one, by how many there are
 --     words_are      how many words are drawn for some bytes
+--     can_be_given      what holds of the number that a new thread is given
 --     made_with, not_made, drawn_with, not_drawn      what the calls come to by their tests
-use Rattle.std.proofs.Common.{◌≡◌, ℕ, ◌+◌, ◌==◌, Bool, true, false, cond, None, Some, is_some, inl, inr, refl, sym, ap, ◌∙◌, arith}
+use Rattle.std.proofs.Common.{◌≡◌, ℕ, ◌+◌, ◌-◌, ◌<◌, ◌^◌, ◌==◌, ◌&&◌, nat_lt, not, Bool, true, false, cond, Option, None, Some, is_some, inl, inr, refl, sym, ap, ◌∙◌, arith}
+use Rattle.std.proofs.lemmas.Bool.{ltb-true}
 use Rattle.std.proofs.lemmas.Bool.Decides.{eqb_tells}
 use Rattle.std.specs.Int.{div_ceil, from_bool}
 use Rattle.std.specs.FinMap.{get, len, remove}
 use Rattle.clock_random.specs.Random.{words_of}
 use Rattle.abi_types.specs.declared.constants.Constants.{Constants}
+use Rattle.abi_types.specs.declared.thread.Thread.{Thread}
 use Rattle.maps.specs.Maps.{len-removed, remove_absent}
 use Rattle.kernel_model.specs.Families.ClockCalls.{can_draw, drawn_by, drawn_if}
-use Rattle.kernel_model.specs.Families.ProcessCalls.{can_make_thread, made_if, made_in}
+use Rattle.kernel_model.specs.Families.ProcessCalls.{can_make_thread, has_next_number, made_if, made_in}
 use Rattle.kernel_model.specs.OwnChanges.{next_thread}
 use Rattle.kernel_model.specs.State.{ProcessState, Threads}
-use Rattle.kernel_model.proofs.Tests.{none_is_no, same_some}
+use Rattle.kernel_model.proofs.Tests.{none_is_no, not_true, same_some}
 use Rattle.kernel_parts.specs.OwnCalls.{new_thread, words_after}
 
 -- ---- numbers that are given where a test says so
@@ -77,3 +80,25 @@ pub not_drawn : (constants : Constants) (p length words : ℕ) (own : ProcessSta
 not_drawn constants p length words own same is =
     ap (λ b. drawn_if b constants p own length)
     (is_not_given (can_draw (words_of length) own) (own.counts.words + words_of length) (is ∙ ap (λ k. words_after k own) same))
+
+-- ---- a new thread
+
+none_there : (o : Option Thread) → not (is_some o) ≡ true → o ≡ None
+none_there None fresh = refl
+none_there (Some thread) fresh = absurd (not_true fresh)
+
+both : (a b : Bool) → (a && b) ≡ true → (a ≡ true) × (b ≡ true)
+both true b h = (refl, h)
+both false b h = absurd (not_true h)
+
+-- no thread has the number that one is given, it is low, and there are fewer than 64
+pub can_be_given : (t n : ℕ) (own : ProcessState) → Some n ≡ new_thread t own → (get own.threads n ≡ None) × (n < 2 ^ 30) × (len own.threads < 64)
+can_be_given t n own is =
+    let given = is_given (can_make_thread t own) (next_thread own) n is in
+    let can = both (is_some (get own.threads t)) (nat_lt (len own.threads) 64 && has_next_number own) given.0 in
+    let rest = both (nat_lt (len own.threads) 64) (has_next_number own) can.1 in
+    let number = both (not (is_some (get own.threads (next_thread own)))) (nat_lt (next_thread own) (2 ^ 30 - 1)) rest.1 in
+    let same = given.1 in
+    let low = ltb-true (next_thread own) (2 ^ 30 - 1) number.1 in
+    let few = ltb-true (len own.threads) 64 rest.0 in
+    (ap (get own.threads) same ∙ none_there (get own.threads (next_thread own)) number.0, omega (arith, low, same), few)

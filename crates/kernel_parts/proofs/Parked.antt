@@ -59,7 +59,7 @@ use Rattle.kernel_parts.specs.Entries.{open_in}
 use Rattle.poll_set.specs.Polls.{poll_outcome}
 use Rattle.kernel_parts.specs.Waiting.{end_at, fd_of_socket, socket_at}
 use Rattle.kernel_parts.proofs.NoPolls.{either_meaning}
-use Rattle.poll_set.proofs.PollReads.{poll_reads}
+use Rattle.poll_set.proofs.PollReads.{poll_by_stage, poll_reads}
 
 -- whether a call waits that isn't refused, by all that it looks at
 abbrev pub parks : Constants → FinMap nat_cmp OpenKind → FinMap nat_cmp Channel → FinMap nat_cmp Status → ℕ → Table → ℕ → Call → Bool
@@ -210,24 +210,25 @@ never_parks c never constants v who table =
     let o = m.effect constants v who table in
     elim (is_parked o.answer) as (λ b. is_parked o.answer ≡ b → b ≡ false) [
       | true ↦ λ parked. absurd (not_true (sym never
-          ∙ (waits_only m.may_wait o _ ((proper c).plain constants v who table) (denied_is_not_parked m.errors (m.outside v table) o) parked).0))
+          ∙ (waits_only m.may_wait who.pid (v.process who.pid) o _ ((proper c).plain constants v who table) (denied_is_not_parked m.errors (m.outside v table) o) parked).0))
       | false ↦ λ _. refl
     ] refl
 
 module _ (constants : Constants) (S : State) (who : Who) (table : Table) where
-  parks_or_never : (c : Call) → (may_wait c ≡ false → is_parked ((meaning_of c).effect constants (whole S) who table).answer ≡ false)
+  parks_or_never : (c : Call) → (meaning_of c).by_stage ≡ false → (may_wait c ≡ false → is_parked ((meaning_of c).effect constants (whole S) who table).answer ≡ false)
       → is_parked ((meaning_of c).effect constants (whole S) who table).answer ≡ parks constants S.opens S.chans S.statuses S.clock table who.since c
-  parks_or_never (call.Poll subscriptions) never = ap (λ (o : Outcome). is_parked o.answer) (poll_reads S constants who table subscriptions)
-  parks_or_never (call.FdRead fd n) never = read_at S fd n (get table fd)
-  parks_or_never (call.FdWrite fd bytes) never = write_at S fd _ bytes (get table fd)
-  parks_or_never (call.SockRecv fd n room flags) never = receive_at S fd who.pid n room flags table (get table fd)
-  parks_or_never (call.SockSend fd bytes fds flags) never = send_at S fd bytes fds flags table (get table fd)
-  parks_or_never (call.MemMap place length prot flags fd offset) never =
+  parks_or_never (call.Poll subscriptions) plain never =
+      ap (λ (o : Outcome). is_parked o.answer) (poll_reads S constants who table subscriptions (sym (poll_by_stage subscriptions) ∙ plain))
+  parks_or_never (call.FdRead fd n) plain never = read_at S fd n (get table fd)
+  parks_or_never (call.FdWrite fd bytes) plain never = write_at S fd _ bytes (get table fd)
+  parks_or_never (call.SockRecv fd n room flags) plain never = receive_at S fd who.pid n room flags table (get table fd)
+  parks_or_never (call.SockSend fd bytes fds flags) plain never = send_at S fd bytes fds flags table (get table fd)
+  parks_or_never (call.MemMap place length prot flags fd offset) plain never =
       never (either_meaning (λ m. m.may_wait ≡ false) (is_anonymous flags) (map_zeros place) (on_open (map_row fd prot) (mapping place length offset)) refl refl)
-  parks_or_never _ never = never refl
+  parks_or_never _ plain never = never refl
 
-  pub effect_parks : (c : Call) → is_parked ((meaning_of c).effect constants (whole S) who table).answer ≡ parks constants S.opens S.chans S.statuses S.clock table who.since c
-  effect_parks c = parks_or_never c (λ never. never_parks c never constants (whole S) who table)
+  pub effect_parks : (c : Call) → (meaning_of c).by_stage ≡ false → is_parked ((meaning_of c).effect constants (whole S) who table).answer ≡ parks constants S.opens S.chans S.statuses S.clock table who.since c
+  effect_parks c plain = parks_or_never c plain (λ never. never_parks c never constants (whole S) who table)
 
 -- ---- by the views of calls
 
@@ -313,6 +314,8 @@ module _ (constants : Constants) (opens : FinMap nat_cmp OpenKind) (channels : F
   other_parks c (family.Random length) is polls offsets sockets = subst Never (sym is) refl
   other_parks c (family.NewThread attributes) is polls offsets sockets = subst Never (sym is) refl
   other_parks c (family.ThreadExit lock word scope) is polls offsets sockets = subst Never (sym is) refl
+  other_parks c (family.Unlock lock word scope) is polls offsets sockets = subst Never (sym is) refl
+  other_parks c (family.Signal condvar word scope n) is polls offsets sockets = subst Never (sym is) refl
   other_parks c (family.Fork left) is polls offsets sockets = subst Never (sym is) refl
   other_parks c (family.Exec fd fds) is polls offsets sockets = subst Never (sym is.1) refl
   other_parks c (family.Raise signal) is polls offsets sockets = subst Never (sym is) refl

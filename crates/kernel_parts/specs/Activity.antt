@@ -10,18 +10,19 @@ use Rattle.abi_types.specs.declared.thread.Thread.TheVariants.{Runnable, Waits}
 use Rattle.kernel_model.specs.Channels.{Channel}
 use Rattle.kernel_model.specs.Deadlines.{soon}
 use Rattle.kernel_model.specs.State.{Table, Threads}
-use Rattle.kernel_parts.specs.Waiting.{is_over}
+use Rattle.kernel_parts.specs.Waiting.{goes_on}
 use Rattle.kernel_parts.specs.declared.activity.Activity.{Activity}
 use Rattle.kernel_parts.specs.declared.activity.Activity.TheVariants.{NoThread, Busy, Waiting}
 
--- what a thread does by whether the call that it waits in is over
+-- what a thread does by whether it goes on, which waits until this moment
 abbrev pub by_over : Bool → Option ℕ → Activity
 by_over over until = if over then Busy else Waiting (soon until)
 
 -- what a thread does at the moment `now`, of a process with this table, where there are these opens and channels, and processes stand so
 abbrev pub activity_of : Constants → FinMap nat_cmp OpenKind → FinMap nat_cmp Channel → FinMap nat_cmp Status → ℕ → Option Table → Thread → Activity
 activity_of constants opens channels statuses now table Runnable = Busy
-activity_of constants opens channels statuses now table (Waits call since until) = by_over (is_over constants opens channels statuses now table since call) until
+activity_of constants opens channels statuses now table (Waits call since until stage) =
+    by_over (goes_on constants opens channels statuses now table call since until stage) until
 
 abbrev pub activity_by : Constants → FinMap nat_cmp OpenKind → FinMap nat_cmp Channel → FinMap nat_cmp Status → ℕ → Option Table → Option Thread → Activity
 activity_by constants opens channels statuses now table None = NoThread

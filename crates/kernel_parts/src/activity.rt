@@ -2,7 +2,7 @@
 ghost use Rattle.std.specs.Prelude.{◌≡◌, option_copied};
 ghost use Rattle.kernel_parts.specs.Activity.{activity_of, both, earlier};
 
-use crate::waiting::is_over;
+use crate::waiting::goes_on;
 use abi_types::Thread;
 use fd_table::FdTable;
 use poll_set::{Surroundings, soon};
@@ -12,9 +12,9 @@ use poll_set::{Surroundings, soon};
 pub enum Activity {
     /// There is no thread.
     NoThread,
-    /// A thread runs, or it waits in a call that would be done now.
+    /// A thread runs, or it waits and goes on now.
     Busy,
-    /// Each thread waits in a call that would wait on. The earliest moment until which one of them waits, if there is one.
+    /// Each thread waits on. The earliest moment until which one of them waits, if there is one.
     Waiting { until: Option<u64> },
 }
 
@@ -59,8 +59,13 @@ impl Activity {
     {
         match thread {
             Thread::Runnable => Activity::Busy,
-            Thread::Waits { call, since, until } => {
-                if is_over(around, table, *since, call) {
+            Thread::Waits {
+                call,
+                since,
+                until,
+                stage,
+            } => {
+                if goes_on(around, table, call, *since, *until, *stage) {
                     Activity::Busy
                 } else {
                     Activity::Waiting {

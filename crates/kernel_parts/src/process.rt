@@ -14,17 +14,19 @@ ghost use Rattle.kernel_model.specs.Outcome.{IsSuccess};
 ghost use Rattle.kernel_model.specs.OwnChanges.{begun_anew, may_bear, with_next_child, without_thread};
 ghost use Rattle.kernel_model.specs.Families.ForkCalls.{can_fork, child_number, child_process};
 ghost use Rattle.kernel_model.specs.Start.{canary_words, first_process};
-ghost use Rattle.kernel_model.specs.Waits.{thread_set};
+ghost use Rattle.kernel_model.specs.Waits.{thread_set, waiting};
 
 use crate::activity::Activity;
 use crate::ended_threads::keep_only;
 use crate::numbers::next_number;
 use crate::start::{LAUNCH_PROCESS, single};
+use crate::waiting::deadline_at;
 use abi_types::{
-    Answer, Call, Constants, Counts, Errno, ObjId, Payload, Pid, Thread, Tid, TryClone,
+    Answer, Call, Constants, Counts, Errno, ObjId, Payload, Pid, Stage, Thread, Tid, Who,
 };
 use clock_random::random_bytes;
 use fd_table::FdTable;
+use guest_locks::stage_after;
 use lists::Bytes;
 use maps::NumMap;
 use poll_set::Surroundings;
@@ -59,8 +61,8 @@ const WORD_LIMIT: u64 = 1 << 63;
 const WORD_SIZE: u64 = 4;
 
 /// What a process has of its own beside its descriptors: its live threads by number, each with the call that it waits in, what it has
-/// made so far, and its depth, which is how many forks lie between it and process 0. No thread waits for a lock or a condition variable
-/// yet, so there is nothing to keep of that.
+/// made so far, and its depth, which is how many forks lie between it and process 0. The queues of its locks and condition variables are
+/// read off the threads (`guest_locks`): it has no more than 64, and their numbers have room in the words of locks.
 #[derive(Drop)]
 pub struct ProcessState {
     pub(crate) threads: NumMap<Thread>,
@@ -81,14 +83,17 @@ fn byte_unit(depth: u32) -> u32
 }
 
 impl Model for ProcessState {
-    ghost use Rattle.kernel_model.specs.State.{ProcessState, no_locks};
+    ghost use Rattle.guest_locks.specs.Queues.{AreFew};
+    ghost use Rattle.kernel_model.specs.State.{ProcessState};
     ghost use Rattle.kernel_model.specs.Codes.{process_code};
 
     ghost Value = { ProcessState };
 
     ghost coded = { process_code };
 
-    ghost view = { λ own. record { threads = own.threads; counts = own.counts; locks = no_locks; depth = own.depth } };
+    ghost view = { λ own. record { threads = own.threads; counts = own.counts; depth = own.depth } };
+
+    ghost invariant = { λ own. AreFew own.threads };
 }
 
 impl ProcessState {
@@ -237,7 +242,8 @@ impl ProcessState {
 
     /// What a child starts with that the thread makes. `Err` where memory ran out.
     pub fn child(&self, alloc: Global, tid: Tid) -> Result<ProcessState, AllocError>
-        requires { may_bear self.now ≡ true }
+        requires bears { may_bear self.now ≡ true }
+        requires there { IsSome (map.get self.now.threads tid) }
         ensures { IfOk result (λ child. child ≡ child_process tid self.now) }
     {
         Ok(ProcessState {
@@ -288,27 +294,25 @@ impl ProcessState {
         self.counts.words += CANARY_WORDS;
     }
 
-    /// Makes a thread wait in a copy of a call, which was made at the moment `since`. `Err` changes nothing.
-    pub fn park(
-        &mut self,
-        tid: Tid,
-        call: &Call,
-        since: u64,
-        until: Option<u64>,
-    ) -> Result<(), AllocError>
-        requires { IsSome (map.get self.old.threads tid) }
-        ensures ok { OnOk result (self.new ≡ thread_set tid (Thread.Waits call.now since until) self.old) }
-        ensures err { OnErr result (self.new ≡ self.old) }
+    /// Makes a thread wait in a call from the moment `now` on. Takes no memory.
+    pub fn park(&mut self, constants: &Constants, who: &Who, now: u64, call: Call)
+        requires { IsSome (map.get self.old.threads who.now.tid) }
+        ensures { self.new ≡ thread_set who.now.tid (waiting constants.now call who.now now) self.old }
     {
-        let call = call.copy()?;
-        let waits = Thread::Waits { call, since, until };
-        self.threads.replace(u64::from(tid.0), waits);
-        Ok(())
+        let stage = stage_after(&call, who.stage, now);
+        let until = deadline_at(constants, &call, who.since, stage);
+        let waits = Thread::Waits {
+            call,
+            since: who.since,
+            until,
+            stage,
+        };
+        self.threads.replace(u64::from(who.tid.0), waits);
     }
 
-    /// Lets a thread run that waits, and gives back the call that it waited in, and when that was made. `None` exactly where the thread
-    /// doesn't wait. Takes no memory.
-    pub fn resume(&mut self, tid: Tid) -> Option<(Call, u64)>
+    /// Lets a thread run that waits, and gives back the call that it waited in, when that was made, and how far its wait had come. `None`
+    /// exactly where the thread doesn't wait. Takes no memory.
+    pub fn resume(&mut self, tid: Tid) -> Option<(Call, u64, Stage)>
         ensures kept { result ≡ kept_in (map.get self.old.threads tid) }
         ensures runs { self.new ≡ thread_set tid Thread.Runnable self.old }
     {
@@ -317,7 +321,12 @@ impl ProcessState {
             return None;
         }
         match self.threads.replace(t, Thread::Runnable) {
-            Thread::Waits { call, since, .. } => Some((call, since)),
+            Thread::Waits {
+                call,
+                since,
+                stage,
+                ..
+            } => Some((call, since, stage)),
             Thread::Runnable => None,
         }
     }

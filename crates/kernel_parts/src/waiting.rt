@@ -1,17 +1,19 @@
 //! Calls that wait: until when, and whether they are over.
-ghost use Rattle.std.specs.Prelude.{◌≡◌, ℕ, option_copied};
+ghost use Rattle.std.specs.Prelude.{◌≡◌, ℕ, false, option_copied};
 ghost use Rattle.std.specs.FinMap as map;
 ghost use Rattle.abi_types.specs.Families.{call_of_offset, call_of_socket, fd_of_offset};
 ghost use Rattle.channel_calls.specs.Calls.{HasAllSent};
+ghost use Rattle.kernel_model.specs.Calls.{meaning_of};
 ghost use Rattle.kernel_model.specs.Outcome.{is_parked};
 ghost use Rattle.kernel_model.specs.Waits as model;
 ghost use Rattle.kernel_parts.specs.Entries.{open_in};
-ghost use Rattle.kernel_parts.specs.Waiting.{end_at, fd_of_socket, is_over, socket_at};
+ghost use Rattle.kernel_parts.specs.Waiting.{end_at, fd_of_socket, goes_on, is_over, socket_at};
 
-use abi_types::{Call, Constants, Family, OffsetCall, SocketCall};
+use abi_types::{Call, Constants, Family, OffsetCall, SocketCall, Stage};
 use channel_calls::{end_waits, socket_waits};
 use fd_table::FdTable;
-use poll_set::{Surroundings, poll_deadline, poll_waits};
+use guest_locks::has_left;
+use poll_set::{Surroundings, begins_with_lock, is_due, poll_deadline, poll_waits};
 use right_rules::refusal;
 
 /// By which moment a call is over that was made at the moment `since`, if there is such a moment that counts.
@@ -21,6 +23,22 @@ pub fn deadline_of(constants: &Constants, call: &Call, since: u64) -> Option<u64
     match call {
         Call::Poll { subscriptions } => poll_deadline(constants, since, subscriptions.as_slice()),
         _ => None,
+    }
+}
+
+/// Until when a thread waits in a call that was made at the moment `since`, and has come so far.
+pub(crate) fn deadline_at(
+    constants: &Constants,
+    call: &Call,
+    since: u64,
+    stage: Stage,
+) -> Option<u64>
+    ensures { result ≡ model.deadline_at constants.now call.now since stage }
+{
+    if has_left(call, stage) {
+        None
+    } else {
+        deadline_of(constants, call, since)
     }
 }
 
@@ -62,8 +80,19 @@ fn socket_call_waits(around: Surroundings<'_>, table: &FdTable, call: SocketCall
     }
 }
 
-/// Whether a call would be done now and not wait, which was made at the moment `since` by a thread of the process that has this table.
-pub fn is_over(around: Surroundings<'_>, table: Option<&FdTable>, since: u64, call: &Call) -> bool
+// Whether a thread that waits in the call goes on by how far its wait has come: it waits for a lock or at a condition variable.
+fn is_by_stage(call: &Call) -> bool
+    ensures { result ≡ (meaning_of call.now).by_stage }
+{
+    match call {
+        Call::Poll { subscriptions } => begins_with_lock(subscriptions.as_slice()),
+        _ => false,
+    }
+}
+
+// Whether a call would be done now and not wait, which was made at the moment `since` by a thread of the process that has this table.
+fn is_over(around: Surroundings<'_>, table: Option<&FdTable>, since: u64, call: &Call) -> bool
+    requires { (meaning_of call.now).by_stage ≡ false }
     ensures { result ≡ is_over around.entry.constants.now around.entry.objects.now.kinds around.entry.channels.now around.entry.statuses.now around.entry.now (option_copied table.entry) since call.now }
 {
     let Some(table) = table else {
@@ -78,4 +107,22 @@ pub fn is_over(around: Surroundings<'_>, table: Option<&FdTable>, since: u64, ca
         Family::Socket(view) => !socket_call_waits(around, table, view),
         _ => true,
     }
+}
+
+/// Whether a thread of the process that has this table goes on now, which waits in a call that was made at the moment `since`, no longer than
+/// until the moment `until`, and whose wait has come so far.
+pub fn goes_on(
+    around: Surroundings<'_>,
+    table: Option<&FdTable>,
+    call: &Call,
+    since: u64,
+    until: Option<u64>,
+    stage: Stage,
+) -> bool
+    ensures { result ≡ goes_on around.entry.constants.now around.entry.objects.now.kinds around.entry.channels.now around.entry.statuses.now around.entry.now (option_copied table.entry) call.now since until stage }
+{
+    if is_by_stage(call) {
+        return guest_locks::goes_on(stage, is_due(around.now, until));
+    }
+    is_over(around, table, since, call)
 }

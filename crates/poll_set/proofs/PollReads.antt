@@ -1,7 +1,9 @@
 -- What a poll reads of a state: the moment, the opens, the channels, and how processes stand.
 --     poll_reads      so it comes to what these come to
---     poll_takes_memory      memory may run out in one that succeeds
-use Rattle.std.proofs.Common.{◌≡◌, ℕ, Bool, true, false, List, [], ◌∷◌, Option, Some, None, refl, ap, ◌∙◌}
+--     poll_takes_memory      memory may run out in one
+--     poll_until      until when it waits
+--     poll_by_stage      whether it waits for a lock or at a condition variable
+use Rattle.std.proofs.Common.{◌≡◌, ℕ, Bool, true, false, List, [], ◌∷◌, Option, Some, None, refl, sym, ap, ◌∙◌}
 use Rattle.std.specs.FinMap.{get}
 use Rattle.abi_structures.specs.declared.events.Subscription.{Subscription}
 use Rattle.abi_structures.specs.declared.events.What.{What}
@@ -12,10 +14,10 @@ use Rattle.abi_types.specs.declared.open_kind.OpenKind.{OpenKind}
 use Rattle.abi_types.specs.declared.open_kind.OpenKind.TheVariants.{File, Directory, End, Terminal, Process}
 use Rattle.abi_types.specs.declared.who.Who.{Who}
 use Rattle.kernel_model.specs.Families.FileMeaning.{open_of}
-use Rattle.kernel_model.specs.Families.Polls.{and_event, begins_with_lock, event_now, events_now, poll, poll_by, read_event, terminate_event, told_or_waits, write_event}
-use Rattle.kernel_model.specs.Outcome.{IsSuccess}
+use Rattle.kernel_model.specs.Families.Polls.{and_event, begins_with_lock, event_now, events_now, poll, poll_by, read_event, soonest, terminate_event, told_or_waits, write_event}
 use Rattle.kernel_model.specs.State.{State, Table}
 use Rattle.kernel_model.specs.View.{View, whole}
+use Rattle.kernel_model.proofs.Tests.{not_true}
 use Rattle.poll_set.specs.Polls.{poll_outcome, sight}
 
 module _ (S : State) where
@@ -71,25 +73,44 @@ module _ (S : State) where
     events_seen [] = refl
     events_seen (s ∷ rest) = λ i. and_event (event_seen s.userdata s.what i) (events_seen rest i)
 
-  by_first : (constants : Constants) (who : Who) (table : Table) (subscriptions : List Subscription) (lock : Bool)
+  by_first : (constants : Constants) (who : Who) (table : Table) (subscriptions : List Subscription) (lock : Bool) → lock ≡ false
       → (poll_by lock subscriptions).effect constants (whole S) who table
-      ≡ (poll_by lock subscriptions).effect constants seen (record { pid = 0; tid = 0; since = who.since }) table
-  by_first constants who table subscriptions true = refl
-  by_first constants who table subscriptions false = ap told_or_waits (events_seen constants who.since table subscriptions)
+      ≡ poll_outcome constants S.opens S.chans S.statuses S.clock table who.since subscriptions
+  by_first constants who table subscriptions true is = absurd (not_true (sym is))
+  by_first constants who table subscriptions false is = ap told_or_waits (events_seen constants who.since table subscriptions)
 
-  pub poll_reads : (constants : Constants) (who : Who) (table : Table) (subscriptions : List Subscription)
+  -- one that doesn't begin with a lock or a condition variable
+  pub poll_reads : (constants : Constants) (who : Who) (table : Table) (subscriptions : List Subscription) → begins_with_lock subscriptions ≡ false
       → (poll subscriptions).effect constants (whole S) who table
       ≡ poll_outcome constants S.opens S.chans S.statuses S.clock table who.since subscriptions
-  poll_reads constants who table subscriptions = by_first constants who table subscriptions (begins_with_lock subscriptions)
+  poll_reads constants who table subscriptions is = by_first constants who table subscriptions (begins_with_lock subscriptions) is
 
--- ---- what a poll leaves
+-- ---- memory, and until when
 
-success_takes : (lock : Bool) (subscriptions : List Subscription) (constants : Constants) (v : View) (who : Who) (table : Table)
-    → IsSuccess ((poll_by lock subscriptions).effect constants v who table).answer → (poll_by lock subscriptions).takes_memory ≡ true
-success_takes true subscriptions constants v who table done = absurd (cc)
-success_takes false subscriptions constants v who table done = refl
+takes_by : (lock : Bool) (subscriptions : List Subscription) → (poll_by lock subscriptions).takes_memory ≡ true
+takes_by true [] = refl
+takes_by true (first ∷ rest) = refl
+takes_by false subscriptions = refl
 
--- one that isn't built yet doesn't succeed
-pub poll_takes_memory : (subscriptions : List Subscription) (constants : Constants) (v : View) (who : Who) (table : Table)
-    → IsSuccess ((poll subscriptions).effect constants v who table).answer → (poll subscriptions).takes_memory ≡ true
-poll_takes_memory subscriptions = success_takes (begins_with_lock subscriptions) subscriptions
+pub poll_takes_memory : (subscriptions : List Subscription) → (poll subscriptions).takes_memory ≡ true
+poll_takes_memory subscriptions = takes_by (begins_with_lock subscriptions) subscriptions
+
+until_by : (constants : Constants) (since : ℕ) (lock : Bool) (subscriptions : List Subscription)
+    → (poll_by lock subscriptions).deadline constants since ≡ soonest constants since subscriptions
+until_by constants since true [] = refl
+until_by constants since true (first ∷ rest) = refl
+until_by constants since false subscriptions = refl
+
+pub poll_until : (constants : Constants) (since : ℕ) (subscriptions : List Subscription)
+    → (poll subscriptions).deadline constants since ≡ soonest constants since subscriptions
+poll_until constants since subscriptions = until_by constants since (begins_with_lock subscriptions) subscriptions
+
+-- ---- whether it waits for a lock or at a condition variable
+
+stage_by : (lock : Bool) (first : Subscription) (rest : List Subscription) → (poll_by lock (first ∷ rest)).by_stage ≡ lock
+stage_by true first rest = refl
+stage_by false first rest = refl
+
+pub poll_by_stage : (subscriptions : List Subscription) → (poll subscriptions).by_stage ≡ begins_with_lock subscriptions
+poll_by_stage [] = refl
+poll_by_stage (first ∷ rest) = stage_by (begins_with_lock (first ∷ rest)) first rest

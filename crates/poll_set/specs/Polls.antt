@@ -10,7 +10,7 @@ use Rattle.abi_types.specs.declared.open_kind.OpenKind.{OpenKind}
 use Rattle.abi_types.specs.declared.status.Status.{Status}
 use Rattle.kernel_model.specs.Channels.{Channel}
 use Rattle.kernel_model.specs.Deadlines.{soon}
-use Rattle.kernel_model.specs.Families.Polls.{has_no_reader, has_no_writer, poll}
+use Rattle.kernel_model.specs.Families.Polls.{events_now, has_no_reader, has_no_writer, poll, told_or_waits}
 use Rattle.kernel_model.specs.Outcome.{Outcome}
 use Rattle.kernel_model.specs.State.{Table, no_state}
 use Rattle.kernel_model.specs.View.{View, whole}
@@ -19,10 +19,11 @@ use Rattle.kernel_model.specs.View.{View, whole}
 abbrev pub sight : FinMap nat_cmp OpenKind → FinMap nat_cmp Channel → FinMap nat_cmp Status → ℕ → View
 sight opens channels statuses now = whole (record no_state { clock = now; opens = opens; chans = channels; statuses = statuses })
 
--- what a poll comes to that was made at the moment `since` by a process with this table
+-- what a poll comes to that was made at the moment `since` by a process with this table, and that doesn't begin with a lock or a condition
+-- variable
 abbrev pub poll_outcome : Constants → FinMap nat_cmp OpenKind → FinMap nat_cmp Channel → FinMap nat_cmp Status → ℕ → Table → ℕ → List Subscription → Outcome
 poll_outcome constants opens channels statuses now table since subscriptions =
-    (poll subscriptions).effect constants (sight opens channels statuses now) (record { pid = 0; tid = 0; since = since }) table
+    told_or_waits (events_now constants (sight opens channels statuses now) since table subscriptions)
 
 -- the moment until which a poll waits that was made at the moment `since`, where it counts
 abbrev pub poll_deadline : Constants → ℕ → List Subscription → Option ℕ
@@ -41,3 +42,8 @@ is_unread channels (Some c) = has_no_reader (get channels c)
 abbrev pub is_unwritten : FinMap nat_cmp Channel → Option ℕ → Bool
 is_unwritten channels None = false
 is_unwritten channels (Some c) = has_no_writer (get channels c)
+
+-- the first subscription, if there is one
+abbrev pub first_of : List Subscription → Option Subscription
+first_of [] = None
+first_of (first ∷ rest) = Some first

@@ -5,7 +5,6 @@ ghost use Rattle.kernel_model.specs.Families.Polls.{deadline_in, has_come, soone
 ghost use Rattle.kernel_model.specs.Families.WaitCalls as model;
 ghost use Rattle.poll_set.specs.Polls.{poll_deadline};
 
-use crate::subscriptions::begins_with_lock;
 use abi_types::{Constants, Subscription, What};
 
 /// The clock that is the time since 1970.
@@ -25,8 +24,8 @@ pub fn soon(until: Option<u64>) -> Option<u64>
     if moment < NEVER { Some(moment) } else { None }
 }
 
-// Whether the deadline has come.
-fn is_due(now: u64, until: Option<u64>) -> bool
+/// Whether the deadline has come.
+pub fn is_due(now: u64, until: Option<u64>) -> bool
     ensures { result ≡ deadlines.is_due now until }
 {
     match until {
@@ -123,8 +122,5 @@ pub fn poll_deadline(
 ) -> Option<u64>
     ensures { result ≡ poll_deadline constants.now since subscriptions.now }
 {
-    if begins_with_lock(subscriptions) {
-        return None;
-    }
     soonest(constants, since, subscriptions)
 }

@@ -7,8 +7,8 @@ use abi_types::{Event, EventType, Status};
 // The flag of an end whose other side is shut or gone.
 const HANGUP: u16 = 1;
 
-// An event of this type without an error, for the subscription with this number of the caller's.
-pub(crate) fn event_of(userdata: u64, kind: EventType) -> Event
+/// An event of this type without an error, for the subscription with this number of the caller's.
+pub fn event_of(userdata: u64, kind: EventType) -> Event
     ensures { result ≡ model.event_of userdata kind }
 {
     Event {

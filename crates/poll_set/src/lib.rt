@@ -3,9 +3,11 @@
 //! A poll looks at its process's descriptors and at [`Surroundings`], and takes memory for the events of its answer alone.
 #![tactic(auto)]
 
-pub use clocks::{REAL_TIME, poll_deadline, soon};
+pub use clocks::{REAL_TIME, is_due, poll_deadline, soon};
+pub use events::event_of;
 pub use notes::note_poll;
 pub use polls::{poll, poll_waits};
+pub use subscriptions::{begins_with_lock, lock_awaited};
 pub use surroundings::Surroundings;
 
 mod clocks;

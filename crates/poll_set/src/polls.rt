@@ -4,11 +4,11 @@ ghost use Rattle.kernel_model.specs.Families.Polls as model;
 ghost use Rattle.kernel_model.specs.Outcome.{is_parked, IsSuccess};
 ghost use Rattle.poll_set.specs.Polls.{is_told, poll_outcome, sight};
 
-use crate::subscriptions::{begins_with_lock, event_now};
+use crate::subscriptions::event_now;
 use crate::surroundings::Surroundings;
-use abi_types::{Answer, Errno, EventList, Payload, Subscription, WordWrites};
+use abi_types::{Answer, EventList, Payload, Subscription, WordWrites};
 use fd_table::FdTable;
-use right_rules::{refused, success_with};
+use right_rules::success_with;
 use std::alloc::{AllocError, Global};
 
 // Whether some subscription is ready of a poll that was made at the moment `since`.
@@ -48,7 +48,8 @@ fn events_now(
     Ok(events)
 }
 
-/// Whether a poll waits now that was made at the moment `since` by a process with this table. Takes no memory.
+/// Whether a poll waits now that was made at the moment `since` by a process with this table, and that doesn't begin with a lock or a
+/// condition variable. Takes no memory.
 pub fn poll_waits(
     around: Surroundings<'_>,
     table: &FdTable,
@@ -57,7 +58,7 @@ pub fn poll_waits(
 ) -> bool
     ensures { result ≡ is_parked (poll_outcome around.entry.constants.now around.entry.objects.now.kinds around.entry.channels.now around.entry.statuses.now around.entry.now table.now since subscriptions.now).answer }
 {
-    !begins_with_lock(subscriptions) && !is_some_ready(around, table, since, subscriptions)
+    !is_some_ready(around, table, since, subscriptions)
 }
 
 // The answer with these events, if there is one, and else the thread waits.
@@ -71,8 +72,8 @@ fn told_or_waits(events: EventList) -> Answer
     Answer::Reply(success_with(count, Payload::Events(events)))
 }
 
-/// What a poll answers now that was made at the moment `since` by a process with this table: the events of all that are ready, and where
-/// none is it waits. Polls of locks and condition variables come later. `Err` comes only where it would else succeed.
+/// What a poll answers now that was made at the moment `since` by a process with this table, and that doesn't begin with a lock or a
+/// condition variable: the events of all that are ready, and where none is it waits. `Err` comes only where it would else succeed.
 pub fn poll(
     alloc: Global,
     around: Surroundings<'_>,
@@ -83,9 +84,6 @@ pub fn poll(
     ensures ok { IfOk result (λ given. given ≡ (poll_outcome around.entry.constants.now around.entry.objects.now.kinds around.entry.channels.now around.entry.statuses.now around.entry.now table.now since subscriptions.now).answer) }
     ensures err { OnErr result (IsSuccess (poll_outcome around.entry.constants.now around.entry.objects.now.kinds around.entry.channels.now around.entry.statuses.now around.entry.now table.now since subscriptions.now).answer) }
 {
-    if begins_with_lock(subscriptions) {
-        return Ok(Answer::Reply(refused(Errno::Nosys)));
-    }
     let events = events_now(alloc, around, table, since, subscriptions)?;
     Ok(told_or_waits(events))
 }

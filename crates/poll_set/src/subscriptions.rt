@@ -1,7 +1,7 @@
 //! What one subscription of a poll is told.
-ghost use Rattle.std.specs.Prelude.{◌≡◌};
+ghost use Rattle.std.specs.Prelude.{◌≡◌, is_some, IfSome, Some};
 ghost use Rattle.kernel_model.specs.Families.Polls as model;
-ghost use Rattle.poll_set.specs.Polls.{sight};
+ghost use Rattle.poll_set.specs.Polls.{first_of, sight};
 
 use crate::clocks::has_come;
 use crate::ends::{read_event, write_event};
@@ -20,13 +20,26 @@ fn is_of_lock(what: &What) -> bool
     )
 }
 
-// Whether the first subscription is of a lock or a condition variable. Such polls come later.
-pub(crate) fn begins_with_lock(subscriptions: &[Subscription]) -> bool
+/// Whether the first subscription is of a lock or a condition variable.
+pub fn begins_with_lock(subscriptions: &[Subscription]) -> bool
     ensures { result ≡ model.begins_with_lock subscriptions.now }
 {
     match subscriptions.first() {
         Some(first) => is_of_lock(&first.what),
         None => false,
+    }
+}
+
+/// The first subscription, where it is of a lock or a condition variable.
+pub fn lock_awaited(subscriptions: &[Subscription]) -> Option<&Subscription>
+    ensures first { IfSome result (λ first. Some first.now ≡ first_of subscriptions.now) }
+    ensures value { is_some result ≡ model.begins_with_lock subscriptions.now }
+{
+    let first = subscriptions.first()?;
+    if is_of_lock(&first.what) {
+        Some(first)
+    } else {
+        None
     }
 }
 

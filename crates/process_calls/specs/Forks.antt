@@ -29,7 +29,7 @@ abbrev pub IsOpenOf : FinMap nat_cmp OpenKind → Option Descriptor → Type 0
 IsOpenOf kinds None = Unit {0}
 IsOpenOf kinds (Some d) = IsSome (get kinds d.id)
 
--- The parent is there and may have a child more, the child isn't there, and the number of the descriptor and that of the open are free.
+-- The parent is there with the thread that makes the child and may have a child more, the child isn't there, and the number of the descriptor and that of the open are free.
 pub record MayPut (plan : NewChild) (tables : FinMap nat_cmp Table) (processes : FinMap nat_cmp ProcessState) (statuses : FinMap nat_cmp Status)
     (kinds : FinMap nat_cmp OpenKind) : Type 0 where
   pub table : Table
@@ -38,6 +38,7 @@ pub record MayPut (plan : NewChild) (tables : FinMap nat_cmp Table) (processes :
   pub own : ProcessState
   pub has_own : get processes plan.parent ≡ Some own
   pub bears : may_bear own ≡ true
+  pub there : IsSome (get own.threads plan.tid)
   pub can_number : own.counts.objects + 2 < 2 ^ 32
   pub child_is : plan.child ≡ child_number plan.parent own
   pub object_is : plan.object ≡ child_object plan.parent own

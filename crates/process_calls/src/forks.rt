@@ -108,6 +108,7 @@ fn parts_of(
     plan: &NewChild,
 ) -> Result<(FdTable, ProcessState), AllocError>
     requires bears { (own : ProcessState) → map.get processes.now plan.now.parent ≡ Some own → may_bear own ≡ true }
+    requires there { (own : ProcessState) → map.get processes.now plan.now.parent ≡ Some own → IsSome (map.get own.threads plan.now.tid) }
     ensures table { IfOk result (λ made. map.get tables.now plan.now.parent ≡ Some made.0) }
     ensures own { IfOk result (λ made. (own : ProcessState) → map.get processes.now plan.now.parent ≡ Some own → made.1 ≡ child_process plan.now.tid own) }
 {

@@ -420,6 +420,15 @@ module _ (launch : Launch) (begins : MayBegin launch.tree launch.grants) (v w : 
     },
     enters_wake (insert threads t doing.Runs) phase.Lives told.0 kept,
   )
+  finish_by woken.Parks tied told kept = (
+    record {
+      lives = refl;
+      left = left_by_wake launch begins v w told.0.moment t turns told.0.call told.0.answered was tied.0.live tied.0.guest_is told.0.given guest
+          told.0.added told.1.guest_is;
+      threads_are = refl;
+    },
+    enters_wake threads phase.Lives told.0 kept,
+  )
   finish_by woken.Ends tied told kept = (refl, inl (enters_wake threads phase.Gone told.0 kept))
   finish_by woken.NotReady tied told kept = (
     (λ i. record {

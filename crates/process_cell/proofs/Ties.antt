@@ -5,6 +5,7 @@
 use Rattle.std.proofs.Common.{◌≡◌, ◌≢◌, ℕ, ◌<◌, Bool, true, false, List, [], ◌∷◌, ◌++◌, Option, None, Some, IsSome, Result, Ok, Err, inl, inr, refl, sym, ap, subst, ◌∙◌}
 use Rattle.std.proofs.lemmas.Bool.Decides.{eqb_tells}
 use Rattle.std.specs.FinMap.{FinMap, empty, get, insert, remove, get-empty}
+use Rattle.std.specs.Option.{option_map}
 use Rattle.std.specs.Ordering.{nat_cmp}
 use Rattle.abi_base.specs.declared.errno.Errno.TheVariants.{Nosys}
 use Rattle.abi_types.specs.declared.call.Call.{Call}
@@ -14,12 +15,17 @@ use Rattle.abi_types.specs.declared.reply.Answer.TheVariants as answer
 use Rattle.abi_types.specs.declared.status.Status.TheVariants.{Live}
 use Rattle.abi_types.specs.declared.thread.Thread.{Thread}
 use Rattle.abi_types.specs.declared.thread.Thread.TheVariants.{Runnable}
+use Rattle.abi_types.specs.declared.thread.Thread.TheVariants.{Waits as Blocked}
 use Rattle.run_types.specs.declared.history.Act.TheVariants as act
 use Rattle.run_types.specs.declared.history.Entry.{Entry}
 use Rattle.run_types.specs.declared.launch.Launch.{Launch}
 use Rattle.maps.specs.Maps.{get-insert-same, get-insert-other, get-remove-same, get-remove-other}
+use Rattle.kernel_model.specs.Families.Locks.{called, given}
 use Rattle.kernel_model.specs.Reply.{refused}
 use Rattle.kernel_model.specs.State.{State, thread_in, thread_of, threads_of}
+use Rattle.kernel_model.specs.Threads.{is_given, is_signalled, stays, IsMoved}
+use Rattle.kernel_model.specs.Waits.{IsParked}
+use Rattle.kernel_model.proofs.Moving.{moved_none, moved_runs}
 use Rattle.kernel_model.proofs.Tests.{none_is_no, not_true}
 use Rattle.tree_model.specs.Grants.{MayBegin}
 use Rattle.rv_interp.specs.declared.turns.TurnEnd.{TurnEnd}
@@ -34,7 +40,7 @@ use Rattle.run_model.proofs.Asks.{asks_stay, whole_there}
 use Rattle.run_model.proofs.Histories.{world_none, first_guest_is, first_state, first_threads, turned_more, whole_more}
 use Rattle.run_model.proofs.Own.{left_alone, same_threads}
 use Rattle.run_model.proofs.Registers.{legal_has_registers}
-use Rattle.kernel_cell.specs.Acting.{AsksCall, AsksEnd, AsksWake, GoesOn, HasNoChild, HasStarted, IsActed, IsAlone, IsChild, IsForked, IsStopped, IsWoken, KeepsBut, KeepsTurns, Looked}
+use Rattle.kernel_cell.specs.Acting.{AsksCall, AsksEnd, AsksWake, GoesOn, HasNoChild, HasStarted, IsActed, IsAlone, IsChild, IsForked, IsStopped, IsWoken, KeepsBut, KeepsTurns, Looked, WaitsOn}
 use Rattle.shared_history.specs.Passes.{IsSeen, Passing}
 use Rattle.kernel_cell.specs.declared.results.Acted.{Acted}
 use Rattle.kernel_cell.specs.declared.results.Acted.TheVariants as acted
@@ -71,14 +77,35 @@ does_none None o' is none = refl
 does_none (Some doing.Runs) o' is none = absurd (none_is_no Runnable (sym none ∙ is))
 does_none (Some doing.Waits) o' is none = absurd (none_is_no is.0 (sym none ∙ is.1))
 
--- the threads are those of another world too, where all but one do there what they did, and what that one does is what is said of it
+-- a thread that waits waits on where it is given a lock or signalled, and does what it did
+given_waits : (thread : Thread) → IsParked thread → IsParked (given thread)
+given_waits Runnable waits = waits
+given_waits (Blocked call since until stage) waits = tt
+
+called_waits : (thread : Thread) → IsParked thread → IsParked (called thread)
+called_waits Runnable waits = waits
+called_waits (Blocked call since until stage) waits = tt
+
+still_waits : (f : Thread → Thread) → ((thread : Thread) → IsParked thread → IsParked (f thread)) → (o : Option Thread) → Waits o → Waits (option_map f o)
+still_waits f keeps o waits = (f waits.0, ap (option_map f) waits.1, keeps waits.0 waits.2)
+
+moved_does : (what : Option Doing) (o o' : Option Thread) → IsMoved o o' → DoesSo what o → DoesSo what o'
+moved_does None o o' moved is = moved_none o o' moved is
+moved_does (Some doing.Runs) o o' moved is = moved_runs o o' moved is
+moved_does (Some doing.Waits) o o' (stays thread) is = is
+moved_does (Some doing.Waits) o o' (is_given lock thread waits) is = still_waits given given_waits (Some thread) is
+moved_does (Some doing.Waits) o o' (is_signalled condvar thread waits) is = still_waits called called_waits (Some thread) is
+
+-- The threads are those of another world too, where all but one are there what they were, or were given locks or signalled, and what that one does
+-- is what is said of it.
 are_but : (w w' : World) (p x : ℕ) (threads threads' : Threads) → AreThreads w p threads
-    → ((u : ℕ) → u ≢ x → thread_of w'.state p u ≡ thread_of w.state p u) → ((u : ℕ) → u ≢ x → get threads' u ≡ get threads u)
+    → ((u : ℕ) → u ≢ x → IsMoved (thread_of w.state p u) (thread_of w'.state p u)) → ((u : ℕ) → u ≢ x → get threads' u ≡ get threads u)
     → DoesSo (get threads' x) (thread_of w'.state p x) → AreThreads w' p threads'
 are_but w w' p x threads threads' are others same at u =
     elim (eqb_tells u x) [
       | inl is ↦ subst (λ (y : ℕ). DoesSo (get threads' y) (thread_of w'.state p y)) (sym is.1) at
-      | inr apart ↦ subst (λ (o : Option Doing × Option Thread). DoesSo o.0 o.1) (λ i. (sym (same u apart.1) i, sym (others u apart.1) i)) (are u)
+      | inr apart ↦ subst (λ (what : Option Doing). DoesSo what (thread_of w'.state p u)) (sym (same u apart.1))
+          (moved_does (get threads u) (thread_of w.state p u) (thread_of w'.state p u) (others u apart.1) (are u))
     ]
 
 -- ---- a process after an entry of its own
@@ -327,6 +354,12 @@ module _ (launch : Launch) (v w : Passing) (t : ℕ) (threads : Threads) (are : 
       keeps_do threads keeps (λ u apart. refl)
       (subst (λ (o : Option Doing). DoesSo o (thread_of (world launch w.seen).state v.pid t)) (sym runs) goes.runnable)
 
+  waits_do : (waits : get threads t ≡ Some doing.Waits) → (guest : Guest) → WaitsOn launch w.seen v.pid t guest → KeepsBut launch v.seen w.seen v.pid t
+      → AreThreads (world launch w.seen) v.pid threads
+  waits_do waits guest on keeps =
+      keeps_do threads keeps (λ u apart. refl)
+      (subst (λ (o : Option Doing). DoesSo o (thread_of (world launch w.seen).state v.pid t)) (sym waits) (on.waits.thread, on.waits.there, on.waits.waits))
+
   put_do : (what : Doing) → KeepsBut launch v.seen w.seen v.pid t → DoesSo (Some what) (thread_of (world launch w.seen).state v.pid t)
       → AreThreads (world launch w.seen) v.pid (insert threads t what)
   put_do what keeps at =
@@ -469,20 +502,25 @@ tied_child launch begins v t seen threads turns guest same child one none =
 -- ---- a wake
 
 module _ (launch : Launch) (begins : MayBegin launch.tree launch.grants) (v w : Passing) (t : ℕ) (threads : Threads) (turns : List ℕ) (was : Guest) where
-  woken_at : (guest : Guest) (turns' : List ℕ) (outcome : Woken) → Tied launch v threads turns was phase.Lives
+  woken_at : (guest : Guest) (turns' : List ℕ) (outcome : Woken) → Tied launch v threads turns was phase.Lives → get threads t ≡ Some doing.Waits
       → IsWoken launch v t turns guest w outcome → KeepsTurns was guest turns turns' outcome
       → Tied launch w (threads_after_wake threads t outcome) turns' guest (phase_after (did_after_wake outcome))
-  woken_at guest turns' woken.Runs tied told kept =
+  woken_at guest turns' woken.Runs tied waits told kept =
       subst (λ (ts : List ℕ). Tied launch w (insert threads t doing.Runs) ts guest phase.Lives) (sym kept)
       (at_pass launch w v.pid (insert threads t doing.Runs) [] guest phase.Lives told.0.added.pid
       (lives_there launch begins w.seen v.pid (insert threads t doing.Runs) guest told.0.added.seen.legal told.1.live
       (put_do launch v w t threads tied.0.are doing.Runs told.2 told.1.runnable) told.1.guest_is))
-  woken_at guest turns' woken.Ends tied told kept = at_pass launch w v.pid threads turns' guest phase.Gone told.0.added.pid told.1
-  woken_at guest turns' woken.NotReady tied told kept =
+  woken_at guest turns' woken.Parks tied waits told kept =
+      subst (λ (ts : List ℕ). Tied launch w threads ts guest phase.Lives) (sym kept)
+      (at_pass launch w v.pid threads [] guest phase.Lives told.0.added.pid
+      (lives_there launch begins w.seen v.pid threads guest told.0.added.seen.legal told.1.live
+      (waits_do launch v w t threads tied.0.are waits guest told.1 told.2) told.1.guest_is))
+  woken_at guest turns' woken.Ends tied waits told kept = at_pass launch w v.pid threads turns' guest phase.Gone told.0.added.pid told.1
+  woken_at guest turns' woken.NotReady tied waits told kept =
       subst (λ (x : List ℕ × Guest). Tied launch w threads x.0 x.1 phase.Lives) (λ i. (sym kept.1 i, sym kept.0 i))
       (lives_still launch begins v w threads turns was tied.0 told.0 told.1.0 tied.1)
-  woken_at guest turns' woken.Gone tied told kept = at_pass launch w v.pid threads turns' guest phase.Gone told.0.pid told.1
-  woken_at guest turns' woken.NoMemory tied told kept = tt
+  woken_at guest turns' woken.Gone tied waits told kept = at_pass launch w v.pid threads turns' guest phase.Gone told.0.pid told.1
+  woken_at guest turns' woken.NoMemory tied waits told kept = tt
 
   pub tied_wake : (threads' : Threads) (now later : Phase) (guest : Guest) (turns' : List ℕ) (outcome : Woken) (done : Did) (old : Standing)
       → Tied launch v threads turns was now → standing_of v threads turns was now ≡ old → WaitsIn t old → IsWoken launch v t turns guest w outcome
@@ -491,7 +529,8 @@ module _ (launch : Launch) (begins : MayBegin launch.tree launch.grants) (v w : 
   tied_wake threads' now later guest turns' outcome done old tied is waits told kept threads_are done_is phase_is =
       subst (λ (x : Threads × Phase). Tied launch w x.0 turns' guest x.1)
       (λ i. (sym threads_are i, sym (phase_is ∙ ap phase_after done_is) i))
-      (woken_at guest turns' outcome (subst (Tied launch v threads turns was) (ap (λ (s : Standing). s.phase) is ∙ waits.0) tied) told kept)
+      (woken_at guest turns' outcome (subst (Tied launch v threads turns was) (ap (λ (s : Standing). s.phase) is ∙ waits.0) tied)
+      (ap (λ (s : Standing). get s.threads t) is ∙ waits.1) told kept)
 
 -- ---- an end from outside
 

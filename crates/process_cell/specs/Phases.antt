@@ -97,14 +97,16 @@ did_after_fork (Err not_made.NoMemory) = did.NoMemory
 -- what threads do after the wake of thread t that came to this
 abbrev pub threads_after_wake : Threads → ℕ → Woken → Threads
 threads_after_wake threads t woken.Runs = insert threads t doing.Runs
+threads_after_wake threads t woken.Parks = threads
 threads_after_wake threads t woken.Ends = threads
 threads_after_wake threads t woken.NotReady = threads
 threads_after_wake threads t woken.Gone = threads
 threads_after_wake threads t woken.NoMemory = threads
 
--- a thread that was woken gives way
+-- a thread that was woken gives way, unless it waits on
 abbrev pub did_after_wake : Woken → Did
 did_after_wake woken.Runs = did.Yields
+did_after_wake woken.Parks = did.Parks
 did_after_wake woken.Ends = did.ProcessGone
 did_after_wake woken.NotReady = did.NotReady
 did_after_wake woken.Gone = did.ProcessGone

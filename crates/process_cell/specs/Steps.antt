@@ -112,15 +112,16 @@ IsForked t before after other child = ⊥
 
 -- ---- wakes and ends
 
--- The wake is an entry, and the thread goes on and gives way; or it isn't ready, and then nothing of the process changed but the history that it has
--- seen, in which others alone did entries; or the process has ended, by this wake or before it; or memory ran out before the entry.
+-- The wake is an entry, and the thread goes on and gives way, or waits on, since it has left its condition variable and waits for the lock; or it
+-- isn't ready, and then nothing of the process changed but the history that it has seen, in which others alone did entries; or the process has
+-- ended, by this wake or before it; or memory ran out before the entry.
 abbrev pub IsFinished : Launch → ℕ → Standing → Standing → Did → Type 0
 IsFinished launch t before after did.Runs = ⊥
 IsFinished launch t before after did.Yields = LivesOn before after (insert before.threads t doing.Runs) × EntersWake t before after
 IsFinished launch t before after (did.Started u) = ⊥
 IsFinished launch t before after did.Forks = ⊥
 IsFinished launch t before after did.Begun = ⊥
-IsFinished launch t before after did.Parks = ⊥
+IsFinished launch t before after did.Parks = LivesOn before after before.threads × EntersWake t before after
 IsFinished launch t before after did.NotReady = (after ≡ record before { seen = after.seen }) × IsNotReady launch after.seen after.pid t
 IsFinished launch t before after did.ThreadGone = ⊥
 IsFinished launch t before after did.ProcessGone = (after.phase ≡ phase.Gone) × (EntersWake t before after ⊎ EntersNone before after)

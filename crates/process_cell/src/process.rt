@@ -224,7 +224,7 @@ impl<J: Naming> Process<J> {
     }
 
     /// The wake of a thread, which waits in a call: where it is ready, its call is answered, and that is an entry of the history, after which
-    /// it gives way. Else the process stays as it is.
+    /// it gives way; or it has left its condition variable and waits on, which is an entry too. Else the process stays as it is.
     pub fn finish<R: Wait>(&mut self, rt: &R, alloc: Global, cell: &Cell<J>, tid: Tid) -> Did
         requires { WaitsIn tid self.old }
         ensures same { self.new.pid ≡ self.old.pid }

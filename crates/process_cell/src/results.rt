@@ -50,9 +50,9 @@ pub enum Did {
     Forks,
     /// It goes on in another program, and no other thread is left.
     Begun,
-    /// It waits in the call that it made.
+    /// It waits in the call that it made. Or it has left its condition variable, and waits on for the lock.
     Parks,
-    /// It waits on, and nothing was done.
+    /// It isn't ready and waits on, and nothing was done.
     NotReady,
     /// It has ended, and its process lives on.
     ThreadGone,
@@ -97,14 +97,16 @@ pub(crate) fn gives_way(call: &Call) -> bool
     matches!(call, Call::ThreadYield)
 }
 
-// Whether this call may change a channel on which others wait, and leave its thread to go on.
+// Whether this call may change a channel on which others wait, give them a lock or signal them, and leave its thread to go on.
 pub(crate) fn may_wake(call: &Call) -> bool {
     matches!(
         call,
-        Call::FdRead { .. }
+        Call::CondvarSignal { .. }
+            | Call::FdRead { .. }
             | Call::FdWrite { .. }
             | Call::FdClose { .. }
             | Call::FdReplace { .. }
+            | Call::LockUnlock { .. }
             | Call::SockRecv { .. }
             | Call::SockSend { .. }
             | Call::SockShutdown { .. }
@@ -176,7 +178,8 @@ pub(crate) fn take_acted(threads: &mut NumMap<Doing>, tid: Tid, yields: bool, ac
     }
 }
 
-// The same after the wake of a thread. One that goes on gives way, since others may be to be looked at once it has read or written.
+// The same after the wake of a thread. One that goes on gives way, since others may be to be looked at once it has read or written. One that
+// has left its condition variable waits on, for the lock.
 pub(crate) fn take_woken(threads: &mut NumMap<Doing>, tid: Tid, woken: Woken) -> Did
     requires { IsSome (map.get threads.old tid) }
     ensures threads { threads.new ≡ threads_after_wake threads.old tid woken }
@@ -187,6 +190,7 @@ pub(crate) fn take_woken(threads: &mut NumMap<Doing>, tid: Tid, woken: Woken) ->
             threads.replace(u64::from(tid.0), Doing::Runs);
             Did::Yields
         }
+        Woken::Parks => Did::Parks,
         Woken::NotReady => Did::NotReady,
         Woken::Ends | Woken::Gone => Did::ProcessGone,
         Woken::NoMemory => Did::NoMemory,

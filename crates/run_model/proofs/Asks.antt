@@ -24,7 +24,7 @@ asks_there : (S T : State) (who : Who) (guest : Guest) (ts : List ℕ) (a : Act)
     → Asks T who guest ts a
 asks_there S T who guest ts (act.Call call given) same asks = (last_there S T who.pid same guest ts who.tid turn_end_is.Ecall asks.0, asks.1)
 asks_there S T who guest ts (act.Wake call given answered) same asks =
-    (whole_there S T who.pid same guest ts asks.0, (asks.1.0, ap (λ o. thread_in o who.tid) same ∙ asks.1.1), asks.2)
+    (whole_there S T who.pid same guest ts asks.0, (asks.1.0, asks.1.1, asks.1.2, ap (λ o. thread_in o who.tid) same ∙ asks.1.3), asks.2)
 asks_there S T who guest ts (act.Trap signal) same asks = last_there S T who.pid same guest ts who.tid (turn_end_is.Trap signal) asks
 asks_there S T who guest ts act.Expire same asks = (whole_there S T who.pid same guest ts asks.0, runnable_there S T who.pid same who.tid asks.1, asks.2)
 asks_there S T who guest ts act.Idle same asks = asks

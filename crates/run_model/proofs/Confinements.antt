@@ -26,7 +26,9 @@ use Rattle.kernel_model.specs.Step.{tick, sight, unreleased, step_answer, step_s
 use Rattle.kernel_model.specs.Deadlines.{idle_state}
 use Rattle.kernel_model.specs.Valid.{IsValid}
 use Rattle.kernel_model.specs.Waits.{may_wait, resumed, MayWait}
-use Rattle.kernel_model.specs.Wakes.{IsWake}
+use Rattle.kernel_model.specs.Wakes.{may_queue, IsWake}
+use Rattle.kernel_model.specs.Families.Locks.{with_word}
+use Rattle.kernel_model.specs.OwnChanges.{begins_to_sleep}
 use Rattle.kernel_model.proofs.Readiness.{idle_jumps, parking_is_allowed, parking_keeps}
 use Rattle.kernel_model.proofs.Tests.{not_true}
 use Rattle.kernel_model.proofs.WaitedCalls.{waited_is_plain}
@@ -42,6 +44,7 @@ use Rattle.run_model.specs.World.{World, Guest, guest_of, registers_of, called_s
 use Rattle.run_model.proofs.Encoded.{args_not_denied}
 use Rattle.run_model.proofs.EncodedBadf.{args_not_badf}
 use Rattle.run_model.proofs.Histories.{apply_is, legal_front, legal_next}
+use Rattle.run_model.proofs.Words.{word_may_wait}
 use Rattle.run_model.proofs.Worlds.{world_is_valid}
 
 call_answers : (constants : Constants) (S : State) (who : Who) (call : Call) (given : Answer) (T U : State) → IsStep constants S who call given T
@@ -101,29 +104,31 @@ call_confined constants S who call given T valid plain fine step = record {
   absent = λ reply is badf. call_absent constants S who call reply T valid fine (subst (λ a. IsStep constants S who call a T) is step) badf;
   listed = λ reply is. replies_are_listed constants S who call reply T (subst (λ a. IsStep constants S who call a T) is step);
   error = λ reply is other. error_keeps constants S who call reply T (subst (λ a. IsStep constants S who call a T) is step) valid other;
-  waits = λ writes is. (
-      let parks = subst (λ a. IsStep constants S who call a T) is step in
-      ((parking_is_allowed constants S who call writes T parks).0, parking_keeps constants S who call writes T parks valid));
+  waits = λ writes is. (parking_is_allowed constants S who call writes T (subst (λ a. IsStep constants S who call a T) is step)).0;
+  parks = λ writes is awake.
+      parking_keeps.alone constants S who call writes T (subst (λ a. IsStep constants S who call a T) is step) valid
+      (subst (λ a. begins_to_sleep a ≡ false) is awake);
+  sleeps = λ condvar lock is. parking_keeps.asleep constants S who call condvar lock T (subst (λ a. IsStep constants S who call a T) is step) valid;
 }
 
 -- a wake of a thread that waits in a call in which it may is confined
 woken_ends : (constants : Constants) (S : State) (who : Who) (call : Call) (given : WakeIn) (answered : Answer) (T : State)
-    → IsWake constants S who call given answered T → is_parked answered ≡ false
-woken_ends constants S who call (wake.Plain word) answered T is = is.1
-woken_ends constants S who call wake.Fault answered T is = ap is_parked is.0
+    → IsWake constants S who call given answered T → is_parked answered ≡ true → may_queue call who.stage ≡ true
+woken_ends constants S who call (wake.Plain word) answered T is parked = is.1 parked
+woken_ends constants S who call wake.Fault answered T is parked = absurd (not_true (sym (ap is_parked is.0) ∙ parked))
 
 woken_step : (constants : Constants) (S : State) (who : Who) (call : Call) (given : WakeIn) (answered : Answer) (T : State) (word : ℕ)
-    → IsWake constants S who call given answered T → given ≡ wake.Plain word → IsStep constants (resumed S who) who call answered T
+    → IsWake constants S who call given answered T → given ≡ wake.Plain word → IsStep constants (resumed S who) who (with_word word call) answered T
 woken_step constants S who call given answered T word is plain = (subst (λ g. IsWake constants S who call g answered T) plain is).0
 
 pub wake_confined : (constants : Constants) (S : State) (who : Who) (call : Call) (given : WakeIn) (answered : Answer) (T : State) → IsValid S
     → may_wait call ≡ true → IsWake constants S who call given answered T → WakeIsConfined constants S who call given answered T
 wake_confined constants S who call given answered T valid may is =
-    let plain = waited_is_plain call may in
     record {
       resumes = resumed_runs S who;
       done = λ word given_is.
-          call_confined constants (resumed S who) who call answered T (resumed_valid S who valid) plain.0 plain.1
+          let plain = waited_is_plain (with_word word call) (word_may_wait word call ∙ may) in
+          call_confined constants (resumed S who) who (with_word word call) answered T (resumed_valid S who valid) plain.0 plain.1
           (woken_step constants S who call given answered T word is given_is);
       faults = λ given_is. subst (λ g. IsWake constants S who call g answered T) given_is is;
       ends = woken_ends constants S who call given answered T is;
@@ -145,7 +150,7 @@ act_confined w who guest ts (act.Call call given) valid fits =
     fits.1
 act_confined w who guest ts (act.Wake call given answered) valid fits =
     wake_confined w.constants w.state who call given answered (woken_state w.constants w.state who call given answered) valid
-    (subst MayWait fits.0.1.1 (valid.nearly.waits who.pid who.tid)) fits.1.1
+    (subst MayWait fits.0.1.3 (valid.nearly.waits who.pid who.tid)).0 fits.1.1
 act_confined w who guest ts (act.Trap signal) valid fits = touches.end_keeps w.state who.pid (Killed signal)
 act_confined w who guest ts act.Expire valid fits = touches.end_keeps w.state who.pid (Killed Xcpu)
 act_confined w who guest ts act.Idle valid fits = (idle_changes_clock w.state, idle_jumps w.state)

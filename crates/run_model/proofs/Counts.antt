@@ -213,7 +213,7 @@ act_few w who ts (act.Call call given) valid fits =
     let few = few_words call given (λ n is. (random_written after.memory (registers_of after who.tid) after.left n (sym fits.0.1 ∙ is)).0) in
     record { threads = omega (arith, took, one); words = omega (arith, took, few) }
 act_few w who ts (act.Wake call given answered) valid fits =
-    let may : may_wait call ≡ true = subst MayWait fits.0.1.1 (valid.nearly.waits who.pid who.tid) in
+    let may : may_wait call ≡ true = (subst MayWait fits.0.1.3 (valid.nearly.waits who.pid who.tid)).0 in
     none_few (act.Wake call given answered) (length ts) (ap (λ b. if b then 1 else 0) (waited_keeps call answered may).2) (waited_draws call answered may)
 act_few w who ts (act.Trap signal) valid fits = none_few (act.Trap signal) (length ts) refl refl
 act_few w who ts act.Expire valid fits = none_few act.Expire (length ts) refl refl

@@ -117,7 +117,7 @@ symlink_plain (Some errno) text path = refl
 
 -- nor does what a poll waits for
 poll_plain : (subscriptions : List Subscription) → are_plain (poll subscriptions).errors ≡ true
-poll_plain subscriptions = poll_errors (λ errors. are_plain errors ≡ true) refl refl subscriptions
+poll_plain subscriptions = ap are_plain (poll_errors subscriptions)
 
 -- ---- all of them
 

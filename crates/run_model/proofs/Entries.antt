@@ -6,6 +6,7 @@ use Rattle.abi_types.specs.declared.call.Call.{Call}
 use Rattle.abi_types.specs.declared.constants.Constants.{Constants}
 use Rattle.abi_base.specs.declared.signal.Signal.{Signal}
 use Rattle.abi_types.specs.declared.reply.Answer.TheVariants as answer
+use Rattle.abi_types.specs.declared.thread.Stage.{Stage}
 use Rattle.abi_types.specs.declared.thread.Thread.TheVariants.{Runnable, Waits}
 use Rattle.abi_types.specs.declared.wake.WakeIn.{WakeIn}
 use Rattle.abi_types.specs.declared.wake.WakeIn.TheVariants as wake
@@ -13,10 +14,11 @@ use Rattle.abi_types.specs.declared.who.Who.{Who}
 use Rattle.run_types.specs.declared.history.Act.{Act}
 use Rattle.run_types.specs.declared.history.Act.TheVariants as act
 use Rattle.run_types.specs.declared.history.Entry.{Entry}
+use Rattle.kernel_model.specs.Families.Locks.{with_word}
 use Rattle.kernel_model.specs.State.{State}
 use Rattle.kernel_model.specs.Step.{step_answer, IsStep}
 use Rattle.kernel_model.specs.Waits.{resumed, WaitsIn}
-use Rattle.kernel_model.specs.Wakes.{IsWake}
+use Rattle.kernel_model.specs.Wakes.{woken, IsWake}
 use Rattle.kernel_model.proofs.Tests.{not_true}
 use Rattle.call_codec.specs.Given.{given_of}
 use Rattle.rv_interp.specs.declared.turns.TurnEnd.{TurnEnd}
@@ -67,7 +69,8 @@ answer_is constants S who call given T (inl done) plenty = done.0
 answer_is constants S who call given T (inr lacking) plenty = absurd (subst (λ a. LacksNothing (act.Call call a)) lacking.1 plenty refl)
 
 -- and so it is with wakes
-lacks_alike : (call : Call) (given : WakeIn) (answered : Answer) → LacksNothing (act.Wake call given answered) → LacksNothing (act.Call call answered)
+lacks_alike : (call : Call) (given : WakeIn) (answered : Answer) → LacksNothing (act.Wake call given answered)
+    → LacksNothing (act.Call (woken call given) answered)
 lacks_alike call given (answer.Parked writes) plenty = plenty
 lacks_alike call given (answer.Reply reply) plenty = plenty
 
@@ -75,18 +78,19 @@ wake_is_one : (constants : Constants) (S : State) (who : Who) (call : Call) (giv
     → IsWake constants S who call given one T → IsWake constants S who call given other U → LacksNothing (act.Wake call given one)
     → LacksNothing (act.Wake call given other) → one ≡ other
 wake_is_one constants S who call (wake.Plain word) one other T U is again plenty more =
-    answer_is constants (resumed S who) who call one T is.0 (lacks_alike call (wake.Plain word) one plenty)
-    ∙ sym (answer_is constants (resumed S who) who call other U again.0 (lacks_alike call (wake.Plain word) other more))
+    answer_is constants (resumed S who) who (with_word word call) one T is.0 (lacks_alike call (wake.Plain word) one plenty)
+    ∙ sym (answer_is constants (resumed S who) who (with_word word call) other U again.0 (lacks_alike call (wake.Plain word) other more))
 wake_is_one constants S who call wake.Fault one other T U is again plenty more = is.0 ∙ sym again.0
 
-same_call : (call other : Call) (since : ℕ) (until again : Option ℕ) → Some (Waits call since until) ≡ Some (Waits other since again) → call ≡ other
-same_call call other since until again e = cc
+same_call : (call other : Call) (since : ℕ) (until again : Option ℕ) (stage more : Stage)
+    → Some (Waits call since until stage) ≡ Some (Waits other since again more) → call ≡ other
+same_call call other since until again stage more e = cc
 
 -- a thread that waits doesn't run
 waits_or_runs : (S : State) (who : Who) (call : Call) → WaitsIn S who call → IsRunnable S who.pid who.tid → ⊥
-waits_or_runs S who call kept runs = no_waiter call who.since kept.0 (sym runs ∙ kept.1) where
-  no_waiter : (c : Call) (since : ℕ) (until : Option ℕ) → Some Runnable ≡ Some (Waits c since until) → ⊥
-  no_waiter c since until e = cc
+waits_or_runs S who call kept runs = no_waiter call who.since kept.0 kept.1 (sym runs ∙ kept.3) where
+  no_waiter : (c : Call) (since : ℕ) (until : Option ℕ) (stage : Stage) → Some Runnable ≡ Some (Waits c since until stage) → ⊥
+  no_waiter c since until stage e = cc
 
 -- the same process, thread and turns ask for one act
 module _ (constants : Constants) (S : State) (who : Who) (guest : Guest) (ts : List ℕ) where
@@ -129,7 +133,7 @@ module _ (constants : Constants) (S : State) (who : Who) (guest : Guest) (ts : L
       absurd (not_wake (act.Call call given) other word answered tt fits again)
   act_is_one (act.Call call given) act.Idle fits again plenty more = absurd (not_idle (act.Call call given) tt fits again)
   act_is_one (act.Wake call given one) (act.Wake other word another) fits again plenty more =
-      let calls : call ≡ other = same_call call other who.since fits.0.1.0 again.0.1.0 (sym fits.0.1.1 ∙ again.0.1.1) in
+      let calls : call ≡ other = same_call call other who.since fits.0.1.0 again.0.1.0 fits.0.1.1 again.0.1.1 (sym fits.0.1.3 ∙ again.0.1.3) in
       let m = (turned_guest_by ts guest).memory in
       let r = registers_of (turned_guest_by ts guest) who.tid in
       let givens : given ≡ word = fits.0.2 ∙ ap (given_of m r) calls ∙ sym again.0.2 in

@@ -22,6 +22,8 @@ use Rattle.run_types.specs.declared.history.Entry.{Entry}
 use Rattle.run_types.specs.declared.launch.Launch.{Launch}
 use Rattle.kernel_model.specs.Ends.{NoneLive}
 use Rattle.kernel_model.specs.Deadlines.{least_deadline}
+use Rattle.kernel_model.specs.Families.Locks.{with_word}
+use Rattle.kernel_model.specs.Outcome.{is_parked}
 use Rattle.kernel_model.specs.Reply.{refused}
 use Rattle.kernel_model.specs.State.{State, thread_in, thread_of}
 use Rattle.kernel_model.specs.Step.{step_answer, step_state}
@@ -41,7 +43,7 @@ use Rattle.call_codec.specs.Given.{given_of}
 use Rattle.run_model.specs.Ends.{Ended, Stalled, HasThread}
 use Rattle.run_model.specs.Legal.{IsRunnable, MayTurn, AreWhole, FitsAct, Fits, FollowsFrom, Legal}
 use Rattle.run_model.specs.Own.{is_idle, IsLeft, is_born, is_ended, stays}
-use Rattle.run_model.specs.World.{World, Guest, start_world, guest_of, registers_of, called_state, woken_state, made_since, thread_at, turn_end, turned_guest_by, turned, acted, who_of, apply, apply_all, world}
+use Rattle.run_model.specs.World.{World, Guest, start_world, guest_of, registers_of, called_state, woken_state, come_to, made_since, thread_at, turn_end, turned_guest_by, turned, acted, who_of, apply, apply_all, world}
 use Rattle.run_model.proofs.Calls.{called_is, ended_by, stays_on, woken_is}
 use Rattle.run_model.proofs.Ends.{killed_is_not_live, start_only}
 use Rattle.run_model.proofs.Own.{born_runs, own_or_left, same_threads}
@@ -71,12 +73,13 @@ acted_has w who guest ts (act.Call call given) done valid fits live =
           the_thread T who.pid who.tid (thread_of T who.pid who.tid) refl
           (stays_on w.constants w.state who call given T fits.1 lasts live (ap is_some fits.0.0.3.0))
     ] refl
-acted_has w who guest ts (act.Wake call given answered) done valid fits live = (
-  who.tid,
-  Runnable,
-  (wake_moves_only w.constants w.state who call given answered (woken_state w.constants w.state who call given answered) fits.1.1).runs live
-      (ap is_some fits.0.1.1) (wake_keeps w.state who call answered valid fits.0.1).0,
-)
+acted_has w who guest ts (act.Wake call given answered) done valid fits live =
+    let T = woken_state w.constants w.state who call given answered in
+    let only = wake_moves_only w.constants w.state who call given answered T fits.1.1 in
+    elim (is_parked answered) as (λ b. is_parked answered ≡ b → (t : ℕ) × (thread : Thread) × HasThread T who.pid t thread) [
+      | true ↦ λ parked. (who.tid, _, (only.queues live (ap is_some fits.0.1.3) parked).2)
+      | false ↦ λ replies. (who.tid, Runnable, only.runs live (ap is_some fits.0.1.3) (wake_keeps w.state who call answered valid fits.0.1).0 replies)
+    ] refl
 acted_has w who guest ts (act.Trap signal) done valid fits live = absurd (ended_by w.state who.pid (Killed signal) (killed_is_not_live signal) live)
 acted_has w who guest ts act.Expire done valid fits live = absurd (ended_by w.state who.pid (Killed Xcpu) (killed_is_not_live Xcpu) live)
 acted_has w who guest ts act.Idle done valid fits live = absurd (not_true (sym done))
@@ -190,8 +193,8 @@ woken_by : (constants : Constants) (S : State) (who : Who) (call : Call) (given 
     → is_ready constants S who.pid who.tid ≡ true
     → (answered : Answer) × IsWake constants S who call given answered (woken_state constants S who call given answered)
 woken_by constants S who call (wake.Plain word) may kept ready =
-    let a = step_answer constants (resumed S who) who call in
-    let T = step_state constants (resumed S who) who call in
+    let a = step_answer constants (resumed S who) who (with_word word call) in
+    let T = step_state constants (resumed S who) who (with_word word call) in
     let is = ready_has_wake constants S who call word kept ready in
     (a, subst (IsWake constants S who call (wake.Plain word) a) (woken_is constants S who call (wake.Plain word) a T may is) is)
 woken_by constants S who call wake.Fault may kept ready = (answer.Reply (refused Fault), (refl, refl))
@@ -200,9 +203,9 @@ woken_by constants S who call wake.Fault may kept ready = (answer.Reply (refused
 waits_where : (constants : Constants) (S : State) (p t : ℕ) (thread : Thread) → HasThread S p t thread → is_ready constants S p t ≡ true
     → (call : Call) × WaitsIn S (thread_at S p t) call
 waits_where constants S p t Runnable there ready = absurd (not_true (sym (ap (is_ready_as constants S p t) there) ∙ ready))
-waits_where constants S p t (Waits call since until) there ready = (
+waits_where constants S p t (Waits call since until stage) there ready = (
   call,
-  (until, there ∙ ap (λ n. Some (Waits call n until)) (sym (ap (made_since (S.clock + 1000)) there))),
+  (until, stage, ap come_to there, there ∙ ap (λ n. Some (Waits call n until stage)) (sym (ap (made_since (S.clock + 1000)) there))),
 )
 
 thread_wakes : (w : World) (p t : ℕ) (thread : Thread) → IsValid w.state → HasThread w.state p t thread → is_ready w.constants w.state p t ≡ true
@@ -211,7 +214,7 @@ thread_wakes w p t thread valid there ready =
     let who : Who = thread_at w.state p t in
     let waits = waits_where w.constants w.state p t thread there ready in
     let given = given_of (guest_of w p).memory (registers_of (guest_of w p) t) waits.0 in
-    let may : may_wait waits.0 ≡ true = subst MayWait waits.1.1 (valid.nearly.waits p t) in
+    let may : may_wait waits.0 ≡ true = (subst MayWait waits.1.3 (valid.nearly.waits p t)).0 in
     let woken = woken_by w.constants w.state who waits.0 given may waits.1 ready in
     entry_of w p t (thread_lives w.state p t thread valid there) ([], act.Wake waits.0 given woken.0, ((tt, waits.1, refl), (ready, woken.1)))
 

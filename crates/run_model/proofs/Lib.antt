@@ -14,6 +14,7 @@ pub mod ThreadRegisters
 pub mod Registers
 pub mod Bounds
 pub mod Wakes
+pub mod Words
 pub mod Waited
 pub mod WaitingRegisters
 pub mod Asks

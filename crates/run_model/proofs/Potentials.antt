@@ -27,8 +27,9 @@ use Rattle.kernel_model.specs.Valid.{IsValid}
 use Rattle.kernel_model.specs.Waits.{HasDeadlines}
 use Rattle.kernel_model.proofs.Readiness.{jump_readies}
 use Rattle.kernel_model.proofs.Starts.{start_runs}
-use Rattle.kernel_model.proofs.Tests.{not_true}
-use Rattle.kernel_model.specs.Step.{end_state}
+use Rattle.kernel_model.proofs.Tests.{none_is_no, not_true}
+use Rattle.kernel_model.specs.Outcome.{is_parked}
+use Rattle.kernel_model.specs.Step.{end_state, IsStep}
 use Rattle.maps.specs.Maps.{get-insert-same, get-insert-other, total, weight, total-empty, total-insert}
 use Rattle.rv_interp.specs.declared.turns.TurnEnd.{TurnEnd}
 use Rattle.rv_interp.specs.declared.turns.TurnEnd.TheVariants.{Ecall, Trap}
@@ -42,7 +43,7 @@ use Rattle.run_model.proofs.Ends.{killed_is_not_live}
 use Rattle.run_model.proofs.Histories.{apply_is, first_state, turned_more, first_thread}
 use Rattle.run_model.proofs.Running.{jump_at_most, jump_is_left, ready_no_jump, running_no_jump}
 use Rattle.run_model.proofs.Worlds.{apply_deadlines, apply_valid, first_deadlines, first_valid}
-use Rattle.run_model.proofs.Wakes.{all_wakes, call_wakes, end_wakes, none_wakes, total_around, woken_wakes}
+use Rattle.run_model.proofs.Wakes.{all_wakes, call_wakes, end_wakes, none_wakes, replied_wakes, thread_wakes, total_around, two_wakes, woken_wakes}
 use Rattle.run_model.proofs.Own.{left_where}
 
 -- ---- turns
@@ -202,9 +203,22 @@ abbrev born_number : Option ℕ → ℕ
 born_number None = 0
 born_number (Some child) = 1
 
-one_child : (child : Option ℕ) → born_number child ≤ 1
-one_child None = omega arith
-one_child (Some child) = omega arith
+-- a call that makes a child has a reply
+told_replies : (call : Call) (given : Answer) (q : ℕ) → child_told call given ≡ Some q → is_parked given ≡ false
+told_replies (ProcFork left) (answer.Parked writes) q told = absurd (none_is_no q told)
+told_replies (ProcFork left) (answer.Reply reply) q told = refl
+told_replies _ given q told = absurd (none_is_no q told)
+
+-- so its thread doesn't wait: a child and the wakes of a call are together at most two
+born_or_wakes : (w : World) (who : Who) (call : Call) (given : Answer) (T : State) → IsValid w.state → IsStep w.constants w.state who call given T
+    → thread_of w.state who.pid who.tid ≡ Some Runnable → born_number (child_told call given) + thread_wakes T who.pid who.tid ≤ 2
+born_or_wakes w who call given T valid step runs =
+    elim (child_told call given) as (λ o. child_told call given ≡ o → born_number o + thread_wakes T who.pid who.tid ≤ 2) [
+      | None ↦ λ untold. let most = two_wakes (thread_of T who.pid who.tid) in omega (arith, most)
+      | Some q ↦ λ told.
+          let none = replied_wakes w.constants w.state who call given T valid step runs (told_replies call given q told) in
+          omega (arith, none)
+    ] refl
 
 born_child : (a : Act) (q : ℕ) → Contains (born a) q → act_child a ≡ Some q
 born_child (act.Call call given) q there = contains_one (child_told call given) q there
@@ -273,9 +287,9 @@ LivesFall w who ts a =
     let after = (acted (turned w who.pid ts) who a).state in
     all_live after + 1 ≤ all_live w.state + weight live_number (get after.statuses who.pid) + born_number (act_child a)
 
--- where w becomes v by an act that takes a turn, and leaves at most one process more and one wake, less is left to do
-falls : (w v : World) → all_left v + 1 ≤ all_left w → all_live v.state ≤ all_live w.state + 1 → all_wakes v.state ≤ all_wakes w.state + 1 → potential v < potential w
-falls w v left lives wakes = let most = jump_at_most v.constants v.state in omega (arith, left, lives, wakes, most)
+-- where w becomes v by an act that takes a turn, and leaves at most two processes and wakes more, less is left to do
+falls : (w v : World) → all_left v + 1 ≤ all_left w → all_live v.state + all_wakes v.state ≤ all_live w.state + all_wakes w.state + 2 → potential v < potential w
+falls w v left more = let most = jump_at_most v.constants v.state in omega (arith, left, more, most)
 
 act_falls : (w : World) (who : Who) (ts : List ℕ) (a : Act) → is_idle a ≡ false → IsSome (get w.state.statuses who.pid) → IsValid w.state
     → LivesFall w who ts a → FitsAct w.constants w.state who (guest_of w who.pid) ts a → potential (acted (turned w who.pid ts) who a) < potential w
@@ -285,9 +299,9 @@ act_falls w who ts (act.Call call given) done made valid lives fits =
     let v = acted (turned w who.pid ts) who (act.Call call given) in
     let most = at_most_one (get v.state.statuses who.pid) in
     let less = last_takes w.state who.pid (guest_of w who.pid) ts who.tid Ecall fits.0.0 in
-    let wakes = call_wakes w.constants w.state who call given v.state valid fits.1 fits.0.0.3.0 in
-    let child = one_child (child_told call given) in
-    falls w v (omega (arith, turns, same, less)) (omega (arith, lives, most, child)) wakes
+    let wakes = call_wakes w.constants w.state who call given v.state valid fits.1 in
+    let both = born_or_wakes w who call given v.state valid fits.1 fits.0.0.3.0 in
+    falls w v (omega (arith, turns, same, less)) (omega (arith, lives, most, wakes, both))
 act_falls w who ts (act.Wake call given answered) done made valid lives fits =
     let turns = turned_all w who.pid ts in
     let same = acted_all (turned w who.pid ts) who (act.Wake call given answered) in
@@ -304,7 +318,7 @@ act_falls w who ts (act.Trap signal) done made valid lives fits =
     let most = at_most_one (get v.state.statuses who.pid) in
     let less = last_takes w.state who.pid (guest_of w who.pid) ts who.tid (Trap signal) fits.0 in
     let wakes = end_wakes w.state who.pid (Killed signal) (killed_is_not_live signal) made valid in
-    falls w v (omega (arith, turns, same, less)) (omega (arith, lives, most)) (omega (arith, wakes))
+    falls w v (omega (arith, turns, same, less)) (omega (arith, lives, most, wakes))
 act_falls w who ts act.Expire done made valid lives fits =
     let turns = turned_all w who.pid ts in
     let same = acted_all (turned w who.pid ts) who act.Expire in

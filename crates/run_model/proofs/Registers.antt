@@ -37,7 +37,9 @@ use Rattle.kernel_model.proofs.Waking.{fault_ends}
 use Rattle.run_model.proofs.ThreadRegisters.{called_made}
 use Rattle.kernel_model.specs.Threads.{child_told, ends_caller, ends_others, first_result, is_success, makes_thread}
 use Rattle.kernel_model.specs.Waits.{resumed}
+use Rattle.kernel_model.specs.Families.Locks.{with_word}
 use Rattle.kernel_model.specs.Wakes.{IsWake}
+use Rattle.kernel_model.proofs.WokenCalls.{same_by_word}
 use Rattle.tree_model.specs.Grants.{MayBegin}
 use Rattle.maps.specs.Maps.{get-insert-same, get-insert-other, get-remove-other}
 use Rattle.call_codec.specs.Processes.{child_registers, restart_registers}
@@ -186,9 +188,10 @@ fault_stays _ = refl
 was_woken : (constants : Constants) (S : State) (who : Who) (call : Call) (given : WakeIn) (answered : Answer) (T : State) (t : ℕ)
     → IsWake constants S who call given answered T → get T.statuses who.pid ≡ Some Live → IsSome (thread_of T who.pid t) → WasThere S who call answered t
 was_woken constants S who call (wake.Plain word) answered T t is live here =
-    elim (was_there constants (resumed S who) who call answered T t is.0 live here) [
-      | inl was ↦ inl (thread_still S who.pid who.tid Runnable who.pid t was.0, was.1, was.2)
-      | inr made ↦ inr made
+    let same = same_by_word word call answered in
+    elim (was_there constants (resumed S who) who (with_word word call) answered T t is.0 live here) [
+      | inl was ↦ inl (thread_still S who.pid who.tid Runnable who.pid t was.0, λ is. sym same.caller ∙ was.1 is, λ apart. sym same.others ∙ was.2 apart)
+      | inr made ↦ inr (sym same.thread ∙ made.0, made.1)
     ]
 was_woken constants S who call wake.Fault answered T t is live here =
     inl (

@@ -96,16 +96,16 @@ module _ (test : ℕ → ℕ → Thread → Bool) where
 -- whether a thread takes its turns
 abbrev runs : Thread → Bool
 runs Runnable = true
-runs (Waits call since until) = false
+runs (Waits call since until stage) = false
 
 runs_is : (thread : Thread) → runs thread ≡ true → thread ≡ Runnable
 runs_is Runnable is = refl
-runs_is (Waits call since until) is = absurd (not_true is)
+runs_is (Waits call since until stage) is = absurd (not_true is)
 
 -- a thread that isn't runnable waits
 waits_is : (thread : Thread) → runs thread ≡ false → IsParked thread
 waits_is Runnable isnt = absurd (not_true (sym isnt))
-waits_is (Waits call since until) isnt = tt
+waits_is (Waits call since until stage) isnt = tt
 
 -- some thread is runnable
 abbrev pub SomeRuns : State → Type 0
@@ -150,7 +150,7 @@ running_no_jump constants S p t there = ap jumps_unless (some_found (goes_on con
 goes_on_is : (constants : Constants) (S : State) (p t : ℕ) (thread : Thread) → is_ready_as constants S p t (Some thread) ≡ true
     → goes_on constants S p t thread ≡ true
 goes_on_is constants S p t Runnable ready = refl
-goes_on_is constants S p t (Waits call since until) ready = ready
+goes_on_is constants S p t (Waits call since until stage) ready = ready
 
 ready_found : (constants : Constants) (S : State) (p t : ℕ) (o : Option Thread) → thread_of S p t ≡ o → is_ready_as constants S p t o ≡ true
     → jumps_left constants S ≡ 0
@@ -172,7 +172,7 @@ jump_at_most constants S = one_jump (is_some (least_key (some_goes_on constants 
 stays_on : (constants : Constants) (S : State) (p t : ℕ) (thread : Thread) → IsParked thread → is_ready_as constants S p t (Some thread) ≡ false
     → goes_on constants S p t thread ≡ false
 stays_on constants S p t Runnable parked none = absurd parked
-stays_on constants S p t (Waits call since until) parked none = none
+stays_on constants S p t (Waits call since until stage) parked none = none
 
 pub jump_is_left : (constants : Constants) (S : State) → NoneRuns S → NoneReady constants S → jumps_left constants S ≡ 1
 jump_is_left constants S waits none =

@@ -199,7 +199,7 @@ program_begins w e fd bytes fds reply fits succeeds live =
     record {
       thread = record {
         live = live;
-        runs = leaves.caller refl ∙ runs_before w e e.pid call reply fits succeeds;
+        runs = leaves.goes_on refl refl refl ∙ runs_before w e e.pid call reply fits succeeds;
         alone = leaves.alone done;
       };
       guest = guest_after w e e.pid call reply succeeds refl

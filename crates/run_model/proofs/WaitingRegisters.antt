@@ -2,7 +2,7 @@
 --     whole_keeps      whole turns leave them
 --     waits_are_encoded      so they are in each legal world
 --     may_can      a call in which a thread may wait is one in which the codec lets it
-use Rattle.std.proofs.Common.{◌≡◌, ◌≢◌, ℕ, Bool, true, false, List, [], ◌∷◌, ◌++◌, Option, None, Some, inl, inr, refl, sym, ap, subst, ◌∙◌, arith}
+use Rattle.std.proofs.Common.{◌≡◌, ◌≢◌, ◌⊎◌, ℕ, ◌+◌, Bool, true, false, List, [], ◌∷◌, ◌++◌, Option, None, Some, inl, inr, refl, sym, ap, subst, ◌∙◌}
 use Rattle.std.specs.Prelude.{⊤, if◌then◌else◌}
 use Rattle.std.proofs.lemmas.Bool.Decides.{eqb_tells}
 use Rattle.std.specs.Option.{option_map}
@@ -16,9 +16,11 @@ use Rattle.abi_types.specs.declared.reply.WordWrites.{WordWrites}
 use Rattle.abi_types.specs.Families.{is_anonymous}
 use Rattle.abi_types.specs.declared.reply.Answer.{Answer}
 use Rattle.abi_types.specs.declared.status.Status.TheVariants.{Killed}
+use Rattle.abi_types.specs.declared.thread.Stage.{Stage}
 use Rattle.abi_types.specs.declared.thread.Thread.{Thread}
 use Rattle.abi_types.specs.declared.thread.Thread.TheVariants.{Runnable, Waits}
 use Rattle.abi_types.specs.declared.wake.WakeIn.{WakeIn}
+use Rattle.abi_types.specs.declared.wake.WakeIn.TheVariants as wake
 use Rattle.abi_types.specs.declared.who.Who.{Who}
 use Rattle.run_types.specs.declared.history.Act.{Act}
 use Rattle.run_types.specs.declared.history.Act.TheVariants as act
@@ -31,22 +33,23 @@ use Rattle.kernel_model.specs.Families.FileMeaning.{on_open}
 use Rattle.kernel_model.specs.Families.MemoryCalls.{map_row, map_zeros, mapping}
 use Rattle.kernel_model.specs.Meaning.{Meaning}
 use Rattle.kernel_model.specs.State.{ProcessState, State, thread_in, thread_of}
-use Rattle.kernel_model.specs.Threads.{child_told, ends_caller, ends_others, first_result, is_success, makes_thread}
+use Rattle.kernel_model.specs.Threads.{child_told, ends_caller, ends_others, first_result, is_success, makes_thread, IsMoved}
+use Rattle.kernel_model.specs.Threads as moved
 use Rattle.kernel_model.specs.Step.{IsStep}
-use Rattle.kernel_model.specs.Waits.{may_wait, IsParked}
-use Rattle.kernel_model.specs.Wakes.{HasThread}
+use Rattle.kernel_model.specs.Waits.{deadline_at, may_wait, stage_after, IsParked}
+use Rattle.kernel_model.specs.Wakes.{woken, HasThread}
 use Rattle.kernel_model.proofs.Tests.{none_is_no, not_true}
 use Rattle.kernel_model.specs.Valid.{IsValid}
 use Rattle.kernel_model.proofs.Starts.{start_runs}
 use Rattle.kernel_model.proofs.Steps.{fork_tells_child, step_keeps_valid, step_moves_only}
 use Rattle.kernel_model.proofs.ThreadLaws.{create_number}
 use Rattle.kernel_model.proofs.Waking.{end_each, step_each, wake_each, wake_keeps}
-use Rattle.maps.specs.Maps.{get-insert-same, get-insert-other, weight}
+use Rattle.maps.specs.Maps.{get-insert-same, get-insert-other}
 use Rattle.rv_interp.specs.declared.turns.TurnEnd.{TurnEnd}
 use Rattle.call_codec.specs.Arguments.{args_of, Encodes}
 use Rattle.call_codec.specs.Given.{CanWait}
 use Rattle.call_codec.specs.Put.{answered_of}
-use Rattle.run_model.specs.Ends.{wakes_left}
+use Rattle.run_model.specs.Laws.{IsOfCall}
 use Rattle.run_model.specs.Legal.{AreWhole, Asks, FitsAct, FollowsFrom, IsRunnable, LastEnds, Legal}
 use Rattle.run_model.specs.World.{World, Guest, acted, answered_guest, apply, apply_all, begun_guest, called_guest, child_guest, less_share, called_state, guest_of, or_no_guest, or_no_registers, registers_of, start_world, thread_turn, turned, turned_guest, turned_guest_by, who_of, with_guest, woken_state, world}
 use Rattle.run_model.proofs.BornParts.{is_child_of}
@@ -56,19 +59,20 @@ use Rattle.run_model.proofs.Registers.{call_guest}
 use Rattle.run_model.proofs.Running.{none_while_live}
 use Rattle.run_model.proofs.ThreadRegisters.{called_kept, parked_ends, parked_makes}
 use Rattle.run_model.proofs.Waited.{parked_is}
-use Rattle.run_model.proofs.Wakes.{woken_thread}
+use Rattle.run_model.proofs.Wakes.{woken_caller}
+use Rattle.run_model.proofs.Words.{word_again}
 use Rattle.run_model.proofs.Worlds.{apply_valid, beside_child, first_valid}
 
 abbrev DoesWait : Option Thread → Type 0
 DoesWait None = ⊥
 DoesWait (Some Runnable) = ⊥
-DoesWait (Some (Waits call since until)) = ⊤
+DoesWait (Some (Waits call since until stage)) = ⊤
 
--- where the thread waits, its registers encode the call with some memory
+-- where the thread waits, its registers encode the call that it made with some memory
 abbrev IsEncoded : Guest → ℕ → Option Thread → Type 0
 IsEncoded guest t None = ⊤
 IsEncoded guest t (Some Runnable) = ⊤
-IsEncoded guest t (Some (Waits call since until)) = (m : Pages) × Encodes m (registers_of guest t) call
+IsEncoded guest t (Some (Waits call since until stage)) = (m : Pages) × (asked : Call) × Encodes m (registers_of guest t) asked × IsOfCall asked call
 
 runs_not_waits : (o : Option Thread) → o ≡ Some Runnable → DoesWait o → ⊥
 runs_not_waits o runs waits = subst DoesWait runs waits
@@ -81,14 +85,29 @@ same_encoded : (guest after : Guest) (t : ℕ) (o : Option Thread) → (DoesWait
     → IsEncoded after t o
 same_encoded guest after t None same encoded = tt
 same_encoded guest after t (Some Runnable) same encoded = tt
-same_encoded guest after t (Some (Waits call since until)) same encoded =
-    (encoded.0, (encoded.1.0, encoded.1.1 ∙ ap (λ (r : Registers). args_of encoded.0 r encoded.1.0) (sym (same tt))))
+same_encoded guest after t (Some (Waits call since until stage)) same encoded =
+    let before = encoded.2 in
+    (encoded.0, encoded.1, (before.0, before.1 ∙ ap (λ (r : Registers). args_of encoded.0 r before.0) (sym (same tt))), encoded.3)
 
--- a thread that has no wake left doesn't wait
-awake_encoded : (guest : Guest) (t : ℕ) (o : Option Thread) → weight wakes_left o ≡ 0 → IsEncoded guest t o
-awake_encoded guest t None none = tt
-awake_encoded guest t (Some Runnable) none = tt
-awake_encoded guest t (Some (Waits call since until)) none = absurd (omega (arith, none))
+-- and as long as it waits in the same call, whether it was given its lock or was signalled
+still_encoded : (guest : Guest) (t : ℕ) (before after : Option Thread) → IsMoved before after → IsEncoded guest t before → IsEncoded guest t after
+still_encoded guest t before after (moved.stays thread) encoded = encoded
+still_encoded guest t before after (moved.is_given lock Runnable waits) encoded = tt
+still_encoded guest t before after (moved.is_given lock (Waits call since until stage) waits) encoded = encoded
+still_encoded guest t before after (moved.is_signalled condvar Runnable sleeps) encoded = tt
+still_encoded guest t before after (moved.is_signalled condvar (Waits call since until stage) sleeps) encoded = encoded
+
+-- or in the call with another word of its lock
+on_encoded : (guest : Guest) (t : ℕ) (call : Call) (given : WakeIn) (since : ℕ) (until later : Option ℕ) (stage next : Stage)
+    → IsEncoded guest t (Some (Waits call since until stage)) → IsEncoded guest t (Some (Waits (woken call given) since later next))
+on_encoded guest t call (wake.Plain word) since until later stage next encoded =
+    (encoded.0, encoded.1, encoded.2, encoded.3 ∙ sym (word_again 0 word call))
+on_encoded guest t call wake.Fault since until later stage next encoded = encoded
+
+-- a thread that runs, or is no more, encodes none
+awake_encoded : (guest : Guest) (t : ℕ) (o : Option Thread) → (o ≡ None) ⊎ (o ≡ Some Runnable) → IsEncoded guest t o
+awake_encoded guest t o (inl none) = subst (IsEncoded guest t) (sym none) tt
+awake_encoded guest t o (inr runs) = subst (IsEncoded guest t) (sym runs) tt
 
 -- ---- turns
 
@@ -127,7 +146,7 @@ turns_keep S p (u ∷ ts) guest t run waits =
 
 parked_waits : (thread : Thread) → IsParked thread → DoesWait (Some thread)
 parked_waits Runnable parked = parked
-parked_waits (Waits call since until) parked = tt
+parked_waits (Waits call since until stage) parked = tt
 
 pub whole_keeps : (S : State) (p : ℕ) (guest : Guest) (ts : List ℕ) (t : ℕ) (thread : Thread) → AreWhole S p guest ts → HasThread S p t thread → IsParked thread
     → registers_of (turned_guest_by ts guest) t ≡ registers_of guest t
@@ -253,12 +272,41 @@ wake_others : (w : World) (who : Who) (ts : List ℕ) → AreOfRunning w.state w
     (thread_of (woken_state w.constants w.state who call given answered) q t)
 wake_others w who ts run call given answered valid fits before q t apart =
     let v : World = acted (turned w who.pid ts) who (act.Wake call given answered) in
-    wake_each (λ q t o. (q ≡ who.pid → t ≢ who.tid) → IsEncoded (guest_of v q) t o) (λ q t _. tt) (λ q t _. tt) w.constants w.state who call given answered
-    (woken_state w.constants w.state who call given answered) fits.1.1 valid
+    wake_each (λ q t o. (q ≡ who.pid → t ≢ who.tid) → IsEncoded (guest_of v q) t o) (λ q t _. tt) (λ q t _. tt)
+    (λ q t before after moves was apart. still_encoded (guest_of v q) t before after moves (was apart)) w.constants w.state who call given answered
+    (woken_state w.constants w.state who call given answered) fits.1.1 valid (λ _ apart. absurd (apart refl refl))
     (λ q t apart. same_encoded (guest_of w q) (guest_of v q) t (thread_of w.state q t)
     (λ waits. called_keeps w who ts run call answered q t waits apart
     (λ _ makes. absurd (not_true (sym (wake_keeps w.state who call answered valid fits.0.1).2 ∙ makes)))) (before q t))
     q t apart
+
+-- A thread that waits on after its own wake has its registers still, since its answer is that it waits.
+woken_encoded : (w : World) (who : Who) (ts : List ℕ) → AreOfRunning w.state who.pid ts → (call : Call) (given : WakeIn) (answered : Answer) → IsValid w.state
+    → FitsAct w.constants w.state who (guest_of w who.pid) ts (act.Wake call given answered) → AllEncoded w
+    → IsEncoded (guest_of (acted (turned w who.pid ts) who (act.Wake call given answered)) who.pid) who.tid
+    (thread_of (woken_state w.constants w.state who call given answered) who.pid who.tid)
+woken_encoded w who ts run call given answered valid fits before =
+    let v : World = acted (turned w who.pid ts) who (act.Wake call given answered) in
+    let T = woken_state w.constants w.state who call given answered in
+    let there = fits.0.1 in
+    elim (woken_caller w.constants w.state who call given answered T valid there fits.1.1) [
+      | inl awake ↦ awake_encoded (guest_of v who.pid) who.tid (thread_of T who.pid who.tid) awake
+      | inr on ↦ (
+          let writes = parked_is answered on.0 in
+          let keeps = wake_keeps w.state who call answered valid there in
+          let waits : DoesWait (thread_of w.state who.pid who.tid) = subst DoesWait (sym there.3) tt in
+          let same : registers_of (guest_of v who.pid) who.tid ≡ registers_of (guest_of w who.pid) who.tid =
+          own_registers w who ts run call answered keeps.0 keeps.2
+          ∙ ap (answered_of (registers_of (turned_guest_by ts (guest_of w who.pid)) who.tid) call) writes.1
+          ∙ turns_keep w.state who.pid ts (guest_of w who.pid) who.tid run waits in
+          let was : IsEncoded (guest_of v who.pid) who.tid (Some (Waits call who.since there.0 there.1)) =
+          subst (IsEncoded (guest_of v who.pid) who.tid) there.3
+          (same_encoded (guest_of w who.pid) (guest_of v who.pid) who.tid (thread_of w.state who.pid who.tid) (λ _. same) (before who.pid who.tid)) in
+          subst (IsEncoded (guest_of v who.pid) who.tid) (sym on.1)
+          (on_encoded (guest_of v who.pid) who.tid call given who.since there.0
+          (deadline_at w.constants (woken call given) who.since (stage_after (woken call given) who.stage (w.state.clock + 1000))) there.1
+          (stage_after (woken call given) who.stage (w.state.clock + 1000)) was))
+    ]
 
 -- whether a thread's registers are the same after the call: it is that of the call, or another that goes on
 abbrev Stays : Who → Call → Answer → ℕ → ℕ → Type 0
@@ -296,12 +344,14 @@ acted_encoded w who ts (act.Call call given) valid fits before =
     let T = called_state w.constants w.state who call given in
     let told = fork_tells_child w.constants w.state who call given T fits.1 in
     λ p u. stays_or_gone w who ts call given valid fits.1 p u
-    (step_each (λ q t o. Stays who call given q t → IsEncoded (guest_of v q) t o) (λ q t _. tt) (λ q t _. tt) w.constants w.state who call given T fits.1
+    (step_each (λ q t o. Stays who call given q t → IsEncoded (guest_of v q) t o) (λ q t _. tt) (λ q t _. tt)
+    (λ q t before after moves was stays. still_encoded (guest_of v q) t before after moves (was stays)) w.constants w.state who call given T fits.1
     (step_keeps_valid w.constants w.state who call given T fits.1 valid)
     (λ parked _.
     let writes = parked_is given parked in
     let guest : Guest = turned_guest_by ts (guest_of w who.pid) in (
       guest.memory,
+      call,
       (
         guest.left,
         fits.0.1 ∙ ap (λ (r : Registers). args_of guest.memory r guest.left)
@@ -311,6 +361,7 @@ acted_encoded w who ts (act.Call call given) valid fits before =
             ∙ own_registers w who ts run call given (ap (ends_caller call) writes.1 ∙ parked_ends call writes.0)
             (ap (makes_thread call) writes.1 ∙ parked_makes call writes.0) ∙ ap (answered_of (registers_of guest who.tid) call) writes.1)),
       ),
+      refl,
     ))
     (λ q t stays. same_encoded (guest_of w q) (guest_of v q) t (thread_of w.state q t)
     (λ waits. answered_keeps w who ts run call given q t waits
@@ -332,8 +383,7 @@ acted_encoded w who ts (act.Wake call given answered) valid fits before =
       | inl is ↦ elim (eqb_tells u who.tid) [
         | inr other ↦ wake_others w who ts run call given answered valid fits before p u (λ _. other.1)
         | inl same ↦ subst (λ (x : ℕ × ℕ). IsEncoded (guest_of v x.0) x.1 (thread_of T x.0 x.1)) (λ i. (sym is.1 i, sym same.1 i))
-            (awake_encoded (guest_of v who.pid) who.tid (thread_of T who.pid who.tid)
-            (woken_thread w.constants w.state who call given answered T valid fits.0.1 fits.1.1))
+            (woken_encoded w who ts run call given answered valid fits before)
       ]
     ]
 acted_encoded w who ts (act.Trap signal) valid fits before =
@@ -364,11 +414,11 @@ start_encoded launch p t =
       | inr runs ↦ subst (IsEncoded (guest_of w p) t) (sym runs) tt
     ])
 
-pub waits_are_encoded : (launch : Launch) (history : List Entry) (p t : ℕ) (call : Call) (since : ℕ) (until : Option ℕ) → MayBegin launch.tree launch.grants
-    → Legal launch history → thread_of (world launch history).state p t ≡ Some (Waits call since until)
-    → (m : Pages) × Encodes m (registers_of (guest_of (world launch history) p) t) call
+pub waits_are_encoded : (launch : Launch) (history : List Entry) (p t : ℕ) (call : Call) (since : ℕ) (until : Option ℕ) (stage : Stage)
+    → MayBegin launch.tree launch.grants → Legal launch history → thread_of (world launch history).state p t ≡ Some (Waits call since until stage)
+    → (m : Pages) × (asked : Call) × Encodes m (registers_of (guest_of (world launch history) p) t) asked × IsOfCall asked call
 unfolding Legal world
-waits_are_encoded launch history p t call since until begins legal there =
+waits_are_encoded launch history p t call since until stage begins legal there =
     subst (IsEncoded (guest_of (apply_all (start_world launch) history) p) t) there
     (follows_encoded (start_world launch) history (first_valid launch begins) legal (start_encoded launch) p t)
 

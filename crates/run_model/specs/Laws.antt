@@ -6,6 +6,7 @@ use Rattle.abi_base.specs.declared.errno.Errno.TheVariants.{Nomem, Notcapable}
 use Rattle.abi_base.specs.Registers.{Registers}
 use Rattle.abi_types.specs.declared.call.Call.{Call}
 use Rattle.abi_types.specs.declared.reply.WordWrites.{WordWrites}
+use Rattle.abi_types.specs.declared.thread.Stage.{Stage}
 use Rattle.abi_types.specs.declared.thread.Thread.TheVariants.{Waits}
 use Rattle.run_types.specs.declared.history.Act.{Act}
 use Rattle.run_types.specs.declared.history.Act.TheVariants as act
@@ -14,6 +15,7 @@ use Rattle.run_types.specs.declared.launch.Launch.{Launch}
 use Rattle.tree_model.specs.Grants.{MayBegin}
 use Rattle.kernel_model.specs.CallBounds.{IsBadfBefore}
 use Rattle.kernel_model.specs.Calls.{errors_of}
+use Rattle.kernel_model.specs.Families.Locks.{with_word}
 use Rattle.kernel_model.specs.State.{thread_of}
 use Rattle.kernel_model.specs.Valid.{IsValid}
 use Rattle.kernel_model.specs.Waits.{HasDeadlines}
@@ -84,33 +86,40 @@ WorldHasDeadlines =
     (launch : Launch) (history : List Entry) → MayBegin launch.tree launch.grants → Legal launch history
     → HasDeadlines (world launch history).constants (world launch history).state
 
+-- the thread that made the first call waits in the second one: it is the same but for the word of its lock, which may have changed since
+abbrev pub IsOfCall : Call → Call → Type 0
+IsOfCall asked call = with_word 0 asked ≡ with_word 0 call
+
 -- Each call that a thread waits in was made by an entry of the history, to which the kernel answered that the thread waits; the moment
--- since which it waits is that of the entry; and memory and registers encoded the call.
+-- since which it waits is that of the entry; and memory and registers encoded the call. It has the word of its lock of then, or, where the thread
+-- has left its condition variable since, that of its wake.
 pub record WasCalled (history : List Entry) (p t : ℕ) (call : Call) (since : ℕ) : Type 0 where
   pub front : List Entry
   pub e : Entry
   pub rest : List Entry
+  pub asked : Call
   pub writes : WordWrites
   pub there : history ≡ front ++ e ∷ rest
   pub process : e.pid ≡ p
   pub thread : e.tid ≡ t
-  pub made : e.act ≡ act.Call call (answer.Parked writes)
+  pub made : e.act ≡ act.Call asked (answer.Parked writes)
+  pub same : IsOfCall asked call
   pub moment : e.moment ≡ since
   pub memory : Pages
   pub registers : Registers
-  pub encoded : Encodes memory registers call
+  pub encoded : Encodes memory registers asked
 
 abbrev pub WaitsWereCalled : Type 0
 WaitsWereCalled =
-    (launch : Launch) (history : List Entry) (p t : ℕ) (call : Call) (since : ℕ) (until : Option ℕ) → MayBegin launch.tree launch.grants
-    → Legal launch history → thread_of (world launch history).state p t ≡ Some (Waits call since until) → WasCalled history p t call since
+    (launch : Launch) (history : List Entry) (p t : ℕ) (call : Call) (since : ℕ) (until : Option ℕ) (stage : Stage) → MayBegin launch.tree launch.grants
+    → Legal launch history → thread_of (world launch history).state p t ≡ Some (Waits call since until stage) → WasCalled history p t call since
 
--- A thread that waits has still the registers that encoded its call, with some memory.
+-- A thread that waits has still the registers that encoded the call that it made, with some memory.
 abbrev pub WaitsAreEncoded : Type 0
 WaitsAreEncoded =
-    (launch : Launch) (history : List Entry) (p t : ℕ) (call : Call) (since : ℕ) (until : Option ℕ) → MayBegin launch.tree launch.grants
-    → Legal launch history → thread_of (world launch history).state p t ≡ Some (Waits call since until)
-    → (m : Pages) × Encodes m (registers_of (guest_of (world launch history) p) t) call
+    (launch : Launch) (history : List Entry) (p t : ℕ) (call : Call) (since : ℕ) (until : Option ℕ) (stage : Stage) → MayBegin launch.tree launch.grants
+    → Legal launch history → thread_of (world launch history).state p t ≡ Some (Waits call since until stage)
+    → (m : Pages) × (asked : Call) × Encodes m (registers_of (guest_of (world launch history) p) t) asked × IsOfCall asked call
 
 -- Time goes on by 1000 nanoseconds from the world w to the world v, or more where the act between them is an idle jump. A jump that takes
 -- longer leads to a deadline, of which none counts that is later than 2^62.

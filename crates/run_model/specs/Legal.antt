@@ -40,9 +40,9 @@ LastEnds S p guest ts t end =
 -- What a thread and its process ask for by an act, before the kernel answers. S is the kernel's state before the entry, of which only the
 -- threads of the process matter, and guest is the process's:
 -- A call is the one that the thread's registers and memory encode at the ECALL that ended the last turn, with the turns that are left then. A
--- wake is of the call that the thread waits in, after whole turns, and is given what the thread's registers and memory say of the places of its
--- output. A trap is the one that ended the last turn. A process expires where a runnable thread has no turn left. An idle jump has no turns, and
--- the number 0 for its process and its thread.
+-- wake is of the call that the thread waits in, after whole turns, and is given what the thread's registers and memory say of the word of its
+-- lock and of the places of its output. A trap is the one that ended the last turn. A process expires where a runnable thread has no turn
+-- left. An idle jump has no turns, and the number 0 for its process and its thread.
 abbrev pub Asks : State → Who → Guest → List ℕ → Act → Type 0
 Asks S who guest ts (act.Call call given) =
     LastEnds S who.pid guest ts who.tid turn_end_is.Ecall
@@ -55,8 +55,8 @@ Asks S who guest ts act.Expire = AreWhole S who.pid guest ts × IsRunnable S who
 Asks S who guest ts act.Idle = (who.pid ≡ 0) × (who.tid ≡ 0) × (ts ≡ [])
 
 -- The answer to a call is one that the kernel may give, and it leaves the state that the answer says. The thread of a wake is ready, and
--- the answer to its call is one that the kernel may give then. Time jumps only where each thread waits, none is ready, and one has a
--- deadline. No other act has an answer.
+-- the answer to its call, with the word that its lock has now, is one that the kernel may give then. Time jumps only where each thread
+-- waits, none is ready, and one has a deadline. No other act has an answer.
 abbrev pub IsAnswered : Constants → State → Who → Act → Type 0
 IsAnswered constants S who (act.Call call given) = IsStep constants S who call given (called_state constants S who call given)
 IsAnswered constants S who (act.Wake call given answered) =

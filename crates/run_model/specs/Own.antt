@@ -40,7 +40,7 @@ abbrev pub IsLiveIn : World → ℕ → Type 0
 IsLiveIn w p = get w.state.statuses p ≡ Some Live
 
 -- both worlds have the same of a process: its memory, registers and turns, its descriptors, what else is its own (its threads, what it has
--- made, and who waits), and its status
+-- made, and its depth), and its status
 pub record Same (w v : World) (p : ℕ) : Type 0 where
   pub guest : guest_of w p ≡ guest_of v p
   pub table : get w.state.tables p ≡ get v.state.tables p

@@ -13,6 +13,7 @@ use Rattle.abi_base.specs.declared.errno.Errno.{Errno}
 use Rattle.abi_base.specs.declared.errno.Errno.TheVariants.{Nomem}
 use Rattle.abi_base.specs.declared.signal.Signal.TheVariants.{Xcpu}
 use Rattle.abi_types.specs.declared.status.Status.TheVariants.{Killed}
+use Rattle.abi_types.specs.declared.thread.Stage.{Stage}
 use Rattle.abi_types.specs.declared.thread.Thread.{Thread}
 use Rattle.abi_types.specs.declared.thread.Thread.TheVariants.{Waits}
 use Rattle.abi_types.specs.declared.wake.WakeIn.{WakeIn}
@@ -30,6 +31,7 @@ use Rattle.kernel_model.specs.State.{State, thread_of}
 use Rattle.kernel_model.specs.Step.{failed, step_state, end_state}
 use Rattle.kernel_model.specs.Threads.{child_told, ends_caller, is_success}
 use Rattle.kernel_model.specs.Waits.{resumed}
+use Rattle.kernel_model.specs.Wakes.{woken}
 use Rattle.rv_interp.specs.declared.turns.TurnEnd.{TurnEnd}
 use Rattle.rv_interp.specs.Turns.{Turn, turn_of}
 use Rattle.call_codec.specs.Processes.{child_registers, restart_pages, restart_registers}
@@ -126,11 +128,11 @@ unfoldable pub called_state : Constants → State → Who → Call → Answer �
 called_state constants S who call (answer.Parked writes) = step_state constants S who call
 called_state constants S who call (answer.Reply reply) = by_errno reply.errno (failed S who) (step_state constants S who call)
 
--- The kernel's state after a wake that was answered so. Its call is done in the state in which the thread runs; where the places of
--- the call's output could not be written any more, the thread runs and nothing is done.
+-- The kernel's state after a wake that was answered so. Its call is done in the state in which the thread runs, with the word that its lock
+-- has now; where that or the places of the call's output could not be written any more, the thread runs and nothing is done.
 abbrev pub woken_state : Constants → State → Who → Call → WakeIn → Answer → State
 woken_state constants S who call wake.Fault answered = failed (resumed S who) who
-woken_state constants S who call (wake.Plain word) answered = called_state constants (resumed S who) who call answered
+woken_state constants S who call (wake.Plain word) answered = called_state constants (resumed S who) who (woken call (wake.Plain word)) answered
 
 -- the registers of threads after a call that was answered so: a thread that it made has those with which it begins
 abbrev pub made_regs : FinMap nat_cmp Registers → Call → Answer → FinMap nat_cmp Registers
@@ -196,7 +198,7 @@ answered_guest p guest t (ProcFork left) given = less_share (child_told (ProcFor
 answered_guest p guest t call given = called_guest guest t call given
 
 -- The world after an act of a thread. A call in which the thread waits leaves its registers, and a wake is answered as the call is that
--- its thread waits in. An idle jump moves the clock alone.
+-- its thread waits in: where the thread waits on for its lock, words are written, and its registers stay. An idle jump moves the clock alone.
 abbrev pub acted : World → Who → Act → World
 acted w who (act.Call call given) = record w {
   state = called_state w.constants w.state who call given;
@@ -213,13 +215,23 @@ acted w who act.Idle = record w { state = idle_state w.state }
 
 -- the moment at which the call was made that a thread waits in; where it waits in none, this moment
 abbrev pub made_since : ℕ → Option Thread → ℕ
-made_since now (Some (Waits call since until)) = since
+made_since now (Some (Waits call since until stage)) = since
 made_since now _ = now
 
--- A thread of a process that does an act in this state: where it waits, its call was made when it says; where it doesn't, its call
--- is made at the moment after this entry's 1000 nanoseconds.
+-- how far the wait of a thread has come; where it doesn't wait there is nothing to say
+abbrev pub come_to : Option Thread → Option Stage
+come_to (Some (Waits call since until stage)) = Some stage
+come_to _ = None
+
+-- A thread of a process that does an act in this state: where it waits, its call was made when it says, and its wait has come as far as it
+-- says; where it doesn't, its call is made at the moment after this entry's 1000 nanoseconds.
 abbrev pub thread_at : State → ℕ → ℕ → Who
-thread_at S p t = record { pid = p; tid = t; since = made_since (S.clock + 1000) (thread_of S p t) }
+thread_at S p t = record {
+  pid = p;
+  tid = t;
+  since = made_since (S.clock + 1000) (thread_of S p t);
+  stage = come_to (thread_of S p t);
+}
 
 -- who an entry is of
 abbrev pub who_of : State → Entry → Who

@@ -37,7 +37,8 @@ pub fn world_is_valid()
 {}
 
 /// Each call that a thread waits in, in the world of a legal history, was made by an entry of it, at the moment since which the
-/// thread waits, and was the one that memory and registers encoded. The thread has these registers still.
+/// thread waits, and was the one that memory and registers encoded. The thread has these registers still. The word of the call's lock
+/// may be another one: that which it had as the thread left its condition variable.
 pub fn waits_were_called()
     ensures called { WaitsWereCalled }
     ensures encoded { WaitsAreEncoded }

@@ -41,6 +41,7 @@ fd_close fd = record {
   errors = [];
   takes_memory = false;
   may_wait = false;
+  by_stage = false;
   deadline = λ constants since. None;
   sends = [];
 }
@@ -90,6 +91,7 @@ fd_dup fd = record {
   errors = Badf ∷ Mfile ∷ [];
   takes_memory = true;
   may_wait = false;
+  by_stage = false;
   deadline = λ constants since. None;
   sends = [];
 }
@@ -114,6 +116,7 @@ fd_replace from to = record {
   errors = Badf ∷ [];
   takes_memory = false;
   may_wait = false;
+  by_stage = false;
   deadline = λ constants since. None;
   sends = [];
 }
@@ -162,6 +165,7 @@ fd_stat_get fd = record {
   errors = Badf ∷ [];
   takes_memory = false;
   may_wait = false;
+  by_stage = false;
   deadline = λ constants since. None;
   sends = [];
 }
@@ -224,6 +228,7 @@ fd_stat_put fd stat flags = record {
   errors = Badf ∷ [];
   takes_memory = false;
   may_wait = false;
+  by_stage = false;
   deadline = λ constants since. None;
   sends = [];
 }

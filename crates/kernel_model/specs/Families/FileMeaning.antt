@@ -42,6 +42,7 @@ on_open row m = record {
   errors = m.errors;
   takes_memory = m.takes_memory;
   may_wait = false;
+  by_stage = false;
   deadline = λ constants since. None;
   sends = [];
 }

@@ -28,7 +28,7 @@ use Rattle.kernel_model.specs.OwnChanges.{begins_anew, begun_anew, forks_one, ma
 use Rattle.kernel_model.specs.Reply.{refused, success}
 use Rattle.kernel_model.specs.Rows.{base_row}
 use Rattle.kernel_model.specs.Start.{canary_words}
-use Rattle.kernel_model.specs.State.{ProcessState, Table, Update, no_locks, set_open, set_process, set_status, set_table}
+use Rattle.kernel_model.specs.State.{ProcessState, Table, Update, set_open, set_process, set_status, set_table}
 use Rattle.kernel_model.specs.View.{View}
 
 -- ---- proc_fork
@@ -43,7 +43,6 @@ abbrev pub child_process : ℕ → ProcessState → ProcessState
 child_process t own = record {
   threads = insert empty t Runnable;
   counts = record { objects = 0; threads = own.counts.threads; forks = 0; words = 0 };
-  locks = no_locks;
   depth = own.depth + 1;
 }
 

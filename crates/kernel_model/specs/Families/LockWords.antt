@@ -1,5 +1,5 @@
--- The words of locks: who has a lock by its word, and what a word becomes as a thread lets go of the lock.
-use Rattle.std.specs.Prelude.{ℕ, ◌-◌, ◌%◌, ◌^◌, ◌==◌, nat_lt, Option, None, Some, if◌then◌else◌}
+-- The words of locks: who has a lock by its word.
+use Rattle.std.specs.Prelude.{ℕ, ◌-◌, ◌%◌, ◌^◌, ◌==◌, nat_lt, if◌then◌else◌}
 
 -- who has a lock: nobody, the thread of this number to write, or so many threads to read
 pub data Holding : Type 0 where
@@ -15,13 +15,3 @@ holding_of_low low = if low == 0 then unheld else if nat_lt low (2 ^ 30) then re
 -- who has the lock with this word; bit 31 says nothing of that
 abbrev pub holding_of : ℕ → Holding
 holding_of word = holding_of_low (word % 2 ^ 31)
-
--- The word after thread t has let go of the lock, where nobody waits for it; nothing where the thread may not. A thread that has it to
--- write, and the last of those that have it to read, leave it free; each other one of these leaves one less.
-abbrev pub unlocked_as : ℕ → ℕ → Holding → Option ℕ
-unlocked_as t word unheld = None
-unlocked_as t word (written_by owner) = if owner == t then Some 0 else None
-unlocked_as t word (read_by readers) = if nat_lt 1 readers then Some (word - 1) else Some 0
-
-abbrev pub unlocked : ℕ → ℕ → Option ℕ
-unlocked t word = unlocked_as t word (holding_of word)

@@ -61,6 +61,7 @@ by_name row m = record {
   errors = m.errors;
   takes_memory = true;
   may_wait = false;
+  by_stage = false;
   deadline = λ constants since. None;
   sends = [];
 }
@@ -82,6 +83,7 @@ by_names first second m = record {
   errors = m.errors;
   takes_memory = true;
   may_wait = false;
+  by_stage = false;
   deadline = λ constants since. None;
   sends = [];
 }

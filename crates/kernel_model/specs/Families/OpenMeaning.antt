@@ -1,6 +1,6 @@
 -- What a call means that works on the open of one descriptor, and may make another one of it: all of it hangs on the time, on that
 -- open, and on what stands behind it.
-use Rattle.std.specs.Prelude.{ℕ, Bool, List, [], ◌∷◌, ◌++◌, Option, None, Some}
+use Rattle.std.specs.Prelude.{ℕ, Bool, false, List, [], ◌∷◌, ◌++◌, Option, None, Some}
 use Rattle.std.specs.FinMap.{get}
 use Rattle.abi_base.specs.declared.errno.Errno.{Errno}
 use Rattle.abi_base.specs.declared.errno.Errno.TheVariants.{Badf}
@@ -46,6 +46,7 @@ by_open row m = record {
   errors = m.errors;
   takes_memory = m.takes_memory;
   may_wait = m.may_wait;
+  by_stage = false;
   deadline = λ constants since. None;
   sends = [];
 }

@@ -185,6 +185,7 @@ file_open lookup path oflags stat = record {
   errors = path_errors ++ Mfile ∷ Exist ∷ Isdir ∷ Again ∷ [];
   takes_memory = true;
   may_wait = false;
+  by_stage = false;
   deadline = λ constants since. None;
   sends = [];
 }

@@ -1,10 +1,7 @@
 -- Polls: what each subscription is told once it is ready, and what a poll comes to.
 use Rattle.std.specs.Prelude.{ℕ, ◌==◌, ◌&&◌, min, not, Bool, true, false, List, [], ◌∷◌, length, Option, None, Some, if◌then◌else◌}
 use Rattle.std.specs.FinMap.{get}
-use Rattle.abi_base.specs.Errno.{number_of}
 use Rattle.abi_base.specs.Signal.{number_of as signal_number}
-use Rattle.abi_base.specs.declared.errno.Errno.TheVariants.{Nosys, Success}
-use Rattle.abi_structures.specs.Events.{number_of as type_number}
 use Rattle.abi_structures.specs.declared.events.Event.{Event}
 use Rattle.abi_structures.specs.declared.events.EventType.{EventType}
 use Rattle.abi_structures.specs.declared.events.EventType.TheVariants as type
@@ -21,21 +18,17 @@ use Rattle.abi_types.specs.declared.status.Status.{Status}
 use Rattle.abi_types.specs.declared.status.Status.TheVariants.{Live, Exit, Killed}
 use Rattle.kernel_model.specs.Channels.{Channel, bytes_of, is_hung, is_open, must_wait, room}
 use Rattle.kernel_model.specs.Deadlines.{is_due, soon}
+pub use Rattle.kernel_model.specs.Families.Events.{event_of}
 use Rattle.kernel_model.specs.Families.FileMeaning.{open_of}
+use Rattle.kernel_model.specs.Families.LockCalls.{lock_poll}
 use Rattle.kernel_model.specs.Families.WaitCalls.{clock_deadline, fds_of, wait_rows}
 use Rattle.kernel_model.specs.Meaning.{Meaning, answering}
 use Rattle.kernel_model.specs.Outcome.{Outcome, parks, replies}
-use Rattle.kernel_model.specs.OwnChanges.{keeps_own}
-use Rattle.kernel_model.specs.Reply.{refused, success}
+use Rattle.kernel_model.specs.Reply.{success}
 use Rattle.kernel_model.specs.State.{Table}
 use Rattle.kernel_model.specs.View.{View}
 
 -- ---- events
-
--- an event of this type without an error, for the subscription with this number of the caller's; what its type lacks is 0
-abbrev pub event_of : ℕ → EventType → Event
-event_of userdata kind =
-    record { userdata = userdata; error = number_of Success; kind = type_number kind; nbytes = 0; flags = 0; signal = 0; code = 0 }
 
 -- HANGUP (1) is set of an end whose other side is shut or gone
 abbrev pub hangup : Bool → ℕ
@@ -162,10 +155,6 @@ events_poll subscriptions = record (answering [] (success 0 0)) {
   deadline = λ constants since. soonest constants since subscriptions;
 }
 
--- a poll that isn't built yet
-abbrev pub unbuilt_poll : Meaning
-unbuilt_poll = answering (Nosys ∷ []) (refused Nosys)
-
 -- whether a lock or a condition variable is waited for
 abbrev pub is_of_lock : What → Bool
 is_of_lock (Condvar condvar condvar_word lock lock_word condvar_scope lock_scope) = true
@@ -173,24 +162,21 @@ is_of_lock (LockRdlock lock word scope) = true
 is_of_lock (LockWrlock lock word scope) = true
 is_of_lock other = false
 
--- what a poll does whose first subscription is of a lock or a condition variable, which come later, or of something else
-abbrev pub poll_by : Bool → List Subscription → Meaning
-poll_by true subscriptions = unbuilt_poll
-poll_by false subscriptions = events_poll subscriptions
-
+-- whether the first subscription is of one, which alone may be
 abbrev pub begins_with_lock : List Subscription → Bool
 begins_with_lock [] = false
 begins_with_lock (first ∷ rest) = is_of_lock first.what
 
+-- a poll of a lock or a condition variable is answered alone, and waits until the time of the other subscription, if there is one
+abbrev pub lock_poll_of : List Subscription → Meaning
+lock_poll_of [] = events_poll []
+lock_poll_of (first ∷ rest) = record (lock_poll first) { deadline = λ constants since. soonest constants since (first ∷ rest) }
+
+-- what a poll does by its first subscription
+abbrev pub poll_by : Bool → List Subscription → Meaning
+poll_by true subscriptions = lock_poll_of subscriptions
+poll_by false subscriptions = events_poll subscriptions
+
 abbrev pub poll : List Subscription → Meaning
 poll subscriptions =
-    record (poll_by (begins_with_lock subscriptions) subscriptions) {
-      named = fds_of (wait_rows subscriptions);
-      need = wait_rows subscriptions;
-      seen = fds_of (wait_rows subscriptions);
-      outside = λ v table. None;
-      touched = λ S table. [];
-      numbers = 0;
-      own = keeps_own;
-      sends = [];
-    }
+    record (poll_by (begins_with_lock subscriptions) subscriptions) { named = fds_of (wait_rows subscriptions); need = wait_rows subscriptions; seen = fds_of (wait_rows subscriptions) }

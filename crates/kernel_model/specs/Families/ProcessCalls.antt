@@ -7,11 +7,10 @@ use Rattle.abi_base.specs.declared.signal.Signal.{Signal}
 use Rattle.abi_base.specs.declared.signal.Signal.TheVariants.{Abrt, Alrm, Bus, Chld, Cont, Fpe, Hup, Ill, Int, Kill, Pipe, Quit, Segv, Stop, Sys, Term, Trap, Tstp, Ttin, Ttou, Urg, Usr1, Usr2, Vtalrm, Xcpu, Xfsz}
 use Rattle.abi_base.specs.Signal.{number_of}
 use Rattle.abi_types.specs.declared.reply.Answer.TheVariants as answer
-use Rattle.abi_types.specs.declared.reply.Reply.{Reply}
 use Rattle.abi_types.specs.declared.status.Status.{Status}
 use Rattle.abi_types.specs.declared.status.Status.TheVariants.{Exit, Killed}
-use Rattle.abi_types.specs.declared.reply.WordWrites.TheVariants.{One}
-use Rattle.kernel_model.specs.Families.LockWords.{unlocked}
+use Rattle.kernel_model.specs.Families.LockCalls.{word_reply}
+use Rattle.kernel_model.specs.Families.Locks.{release_of, released_word, unlocked_own}
 use Rattle.kernel_model.specs.Meaning.{Meaning, answering}
 use Rattle.kernel_model.specs.Outcome.{Outcome, replies}
 use Rattle.kernel_model.specs.OwnChanges.{ends_one, makes_one, next_thread, with_next_thread, without_thread}
@@ -118,20 +117,20 @@ abbrev pub left_updates : ℕ → ℕ → Option ProcessState → List Update
 left_updates p t None = end_updates p None (Exit 0)
 left_updates p t (Some own) = left_if_last (is_last_thread t own) p t own
 
--- the reply by which the lock's word is written
-abbrev pub left_reply : ℕ → ℕ → Reply
-left_reply lock word = record (success 0 0) { writes = One (record { address = lock; word = word }) }
-
--- the thread lets go of a lock, whose word becomes this, and ends; where it may not let go it goes on
+-- the thread lets go of a lock, whose word becomes this and which leaves the process so, and ends; where it may not let go it goes on
 abbrev pub left_with : ℕ → ℕ → Option ProcessState → ℕ → Option ℕ → Outcome
 left_with p t own lock None = replies (refused Perm)
-left_with p t own lock (Some word) = record { answer = answer.Reply (left_reply lock word); updates = left_updates p t own }
+left_with p t own lock (Some word) = record { answer = answer.Reply (word_reply lock word); updates = left_updates p t own }
 
--- The end of the thread, and before it what lock_unlock does of this lock, whose word is this. Nobody waits for a lock yet.
+abbrev pub left_in : ℕ → ℕ → ℕ → ℕ → Option ProcessState → Outcome
+left_in p t lock word None = replies (refused Perm)
+left_in p t lock word (Some own) = left_with p t (Some (unlocked_own lock word t own)) lock (released_word (release_of t word) lock own.threads)
+
+-- the end of the thread, and before it what lock_unlock does of this lock, whose word is this
 abbrev pub thread_exit : ℕ → ℕ → Meaning
 thread_exit lock word = record (answering (Perm ∷ []) (success 0 0)) {
-  effect = λ constants v who table. left_with who.pid who.tid (v.process who.pid) lock (unlocked who.tid word);
-  own = ends_one;
+  effect = λ constants v who table. left_in who.pid who.tid lock word (v.process who.pid);
+  own = ends_one lock word;
 }
 
 abbrev pub thread_yield : Meaning

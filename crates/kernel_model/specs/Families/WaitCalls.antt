@@ -1,4 +1,4 @@
--- Calls on locks and condition variables; what polls need, and until when they wait for clocks.
+-- What polls need, and until when they wait for clocks.
 use Rattle.std.specs.Prelude.{ℕ, ◌+◌, ◌-◌, ◌==◌, Bool, List, [], ◌∷◌, map, if◌then◌else◌}
 use Rattle.abi_base.specs.declared.rights.TheConstants.Rights.{POLL_FD_READWRITE, POLL_PROC_TERMINATE}
 use Rattle.abi_structures.specs.declared.events.Subscription.{Subscription}
@@ -7,14 +7,7 @@ use Rattle.abi_structures.specs.declared.events.What.TheVariants.{FdRead, FdWrit
 use Rattle.abi_types.specs.declared.constants.Constants.{Constants}
 use Rattle.abi_types.specs.declared.needed.Needed.{Needed}
 use Rattle.kernel_model.specs.Families.ClockCalls.{is_real}
-use Rattle.kernel_model.specs.Meaning.{Meaning, unbuilt_naming}
 use Rattle.kernel_model.specs.Rows.{base_row}
-
-abbrev pub condvar_signal : Meaning
-condvar_signal = unbuilt_naming []
-
-abbrev pub lock_unlock : Meaning
-lock_unlock = unbuilt_naming []
 
 -- ---- what a poll needs
 

@@ -1,6 +1,6 @@
 //! Rows of calls: a number, arguments, what stands in memory, and what is wanted.
 use abi_types::{Bytes, Call, Errno, FdList, Lookup, Place, Prot, Regs, SubscriptionList, What};
-use call_codec::read_call;
+use call_codec::args;
 use guest_memory::{GuestMemory, MemFault};
 use std::alloc::{AllocError, Global};
 
@@ -373,7 +373,7 @@ pub fn first_other(alloc: Global, rows: &[Row]) -> Result<Option<usize>, AllocEr
             return Ok(Some(place));
         };
         let regs = registers_of(number, arguments);
-        let call = read_call(alloc, &regs, &memory, LEFT)?;
+        let call = args(alloc, &regs, &memory, LEFT)?;
         if !is_wanted(&call, number, want) {
             return Ok(Some(place));
         }

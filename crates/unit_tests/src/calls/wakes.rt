@@ -5,7 +5,7 @@ use abi_types::{
     Answer, Call, Errno, Event, EventList, Payload, Prot, Reply, SubscriptionList, WakeIn,
     WordWrite, WordWrites,
 };
-use call_codec::{given, put_woken, read_call};
+use call_codec::{args, given, put_woken};
 use guest_memory::{GuestMemory, MemFault};
 use std::alloc::{AllocError, Global};
 use std::test::Fail;
@@ -194,7 +194,7 @@ fn first_other(alloc: Global) -> Result<Option<usize>, AllocError> {
             return Ok(Some(place));
         };
         let regs = registers_of(number, arguments);
-        let call = read_call(alloc, &regs, &memory, LEFT)?;
+        let call = args(alloc, &regs, &memory, LEFT)?;
         if changed(&mut memory, change).is_err() || given(&regs, &memory, &call) != want {
             return Ok(Some(place));
         }

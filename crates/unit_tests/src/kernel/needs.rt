@@ -1,6 +1,6 @@
-//! What those calls name and need that the command answers by NOSYS before the kernel sees them, a poll of descriptors, and proc_exec,
-//! proc_fork and proc_raise, and their refusals for lack of that: with no descriptor at all, with just what they need, and with each needed
-//! right taken away in turn. The same of the other calls is shown by scripts of calls (docs/GATE.md).
+//! What calls on locks and condition variables name and need, fd_create1, which the command refuses before the kernel sees it, a poll of
+//! descriptors, and proc_exec, proc_fork and proc_raise, and their refusals for lack of that: with no descriptor at all, with just what they
+//! need, and with each needed right taken away in turn. The same of the other calls is shown by scripts of calls (docs/GATE.md).
 use crate::kernel::stdout_kernel::{answer_to, bare_kernel};
 use abi_types::{
     Answer, Bytes, Call, CallNumber, Denial, Descriptor, Errno, FdList, ObjId, OpenType, Reply,
@@ -33,7 +33,7 @@ const CASES: &[Case] = &[
         number: 2,
         named: &[],
         rows: &[],
-        bare: Errno::Nosys,
+        bare: Errno::Success,
     },
     // its arguments are always refused before the kernel sees it
     Case {
@@ -43,12 +43,13 @@ const CASES: &[Case] = &[
         rows: &[],
         bare: Errno::Nosys,
     },
+    // nobody has the lock
     Case {
         name: "lock_unlock",
         number: 31,
         named: &[],
         rows: &[],
-        bare: Errno::Nosys,
+        bare: Errno::Perm,
     },
     Case {
         name: "poll",

@@ -1,6 +1,6 @@
 use Rattle.call_codec.proofs.Mappings.{mapping_filled}
 use Rattle.call_codec.proofs.Outputs.{entries_written, found_state_written, link_written, open_state_written, pread_written, read_written, state_written}
-use Rattle.call_codec.proofs.ThreadOutputs.{exit_word_written, random_written}
+use Rattle.call_codec.proofs.ThreadOutputs.{exit_word_written, random_written, signal_word_written, unlock_word_written}
 use Rattle.call_codec.proofs.WokenOutputs.{events_written, message_written, sent_written, words_written}
 use Rattle.call_codec.proofs.laws.output_is_written.Goals as goal
 
@@ -39,6 +39,12 @@ returns-clause-random c = random_written
 
 pub returns-clause-exit_word : goal.returns-clause-exit_word
 returns-clause-exit_word c = exit_word_written
+
+pub returns-clause-unlock_word : goal.returns-clause-unlock_word
+returns-clause-unlock_word c = unlock_word_written
+
+pub returns-clause-signal_word : goal.returns-clause-signal_word
+returns-clause-signal_word c = signal_word_written
 
 pub returns-clause-message : goal.returns-clause-message
 returns-clause-message c = message_written

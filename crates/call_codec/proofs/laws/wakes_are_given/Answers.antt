@@ -1,4 +1,3 @@
-use Rattle.call_codec.proofs.Encoded.{built_encoded}
 use Rattle.call_codec.proofs.Puts.{few_ranges}
 use Rattle.call_codec.proofs.WokenOutputs.{given_at_call, woken_events, woken_message, woken_read, woken_sent, woken_word}
 use Rattle.call_codec.proofs.laws.wakes_are_given.Goals as goal
@@ -23,6 +22,3 @@ returns-clause-word c = woken_word
 
 pub returns-clause-few : goal.returns-clause-few
 returns-clause-few c = few_ranges
-
-pub returns-clause-built : goal.returns-clause-built
-returns-clause-built c = built_encoded

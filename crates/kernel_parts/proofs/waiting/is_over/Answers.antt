@@ -15,7 +15,7 @@ returns-in-Poll c =
     ∙ sym (ap (λ t. is_over c.args.around.constants.now c.args.around.objects.now.kinds c.args.around.channels.now c.args.around.statuses.now c.args.around.now (option_copied t) c.args.since
     c.args.call.now) c.in-Some.is
     ∙ poll_is_over c.args.around.constants.now c.args.around.objects.now.kinds c.args.around.channels.now c.args.around.statuses.now c.args.around.now c.in-Some.table.now c.args.since
-    c.args.call.now allowed c.family.result c.family.ensures c.in-Poll.subscriptions c.in-Poll.is)
+    c.args.call.now c.requires allowed c.family.result c.family.ensures c.in-Poll.subscriptions c.in-Poll.is)
 
 pub returns-in-Offset : goal.returns-in-Offset
 returns-in-Offset c =
@@ -25,7 +25,7 @@ returns-in-Offset c =
     ∙ sym (ap (λ t. is_over c.args.around.constants.now c.args.around.objects.now.kinds c.args.around.channels.now c.args.around.statuses.now c.args.around.now (option_copied t) c.args.since
     c.args.call.now) c.in-Some.is
     ∙ offset_is_over c.args.around.constants.now c.args.around.objects.now.kinds c.args.around.channels.now c.args.around.statuses.now c.args.around.now c.in-Some.table.now c.args.since
-    c.args.call.now allowed c.family.result c.family.ensures c.in-Offset.view c.in-Offset.is)
+    c.args.call.now c.requires allowed c.family.result c.family.ensures c.in-Offset.view c.in-Offset.is)
 
 pub socket_call_waits-requires : goal.socket_call_waits-requires
 socket_call_waits-requires c =
@@ -42,7 +42,7 @@ returns-in-Socket c =
     ∙ sym (ap (λ t. is_over c.args.around.constants.now c.args.around.objects.now.kinds c.args.around.channels.now c.args.around.statuses.now c.args.around.now (option_copied t) c.args.since
     c.args.call.now) c.in-Some.is
     ∙ socket_is_over c.args.around.constants.now c.args.around.objects.now.kinds c.args.around.channels.now c.args.around.statuses.now c.args.around.now c.in-Some.table.now c.args.since
-    c.args.call.now allowed c.family.result c.family.ensures c.in-Socket.view c.in-Socket.is)
+    c.args.call.now c.requires allowed c.family.result c.family.ensures c.in-Socket.view c.in-Socket.is)
 
 pub returns-in_default-family : goal.returns-in_default-family
 returns-in_default-family c =
@@ -51,4 +51,4 @@ returns-in_default-family c =
     sym (ap (λ t. is_over c.args.around.constants.now c.args.around.objects.now.kinds c.args.around.channels.now c.args.around.statuses.now c.args.around.now (option_copied t) c.args.since
     c.args.call.now) c.in-Some.is
     ∙ other_is_over c.args.around.constants.now c.args.around.objects.now.kinds c.args.around.channels.now c.args.around.statuses.now c.args.around.now c.in-Some.table.now c.args.since
-    c.args.call.now allowed c.family.result c.family.ensures c.in_default-family.not-Poll c.in_default-family.not-Offset c.in_default-family.not-Socket)
+    c.args.call.now c.requires allowed c.family.result c.family.ensures c.in_default-family.not-Poll c.in_default-family.not-Offset c.in_default-family.not-Socket)

@@ -1,9 +1,8 @@
-use Rattle.std.proofs.Common.{◌≡◌, ℕ, ◌<◌, List, length, slice_index_or, refl, sym, ap, subst, arith, true≢false}
-use Rattle.run_model.specs.World.{world, thread_at}
+use Rattle.std.proofs.Common.{◌≡◌, ◌∙◌, ℕ, ◌<◌, List, length, slice_index_or, refl, sym, ap, subst, arith}
+use Rattle.run_model.specs.World.{world}
 use Rattle.shared_history.proofs.KeptEntries.{takes_reserved}
 use Rattle.kernel_cell.specs.Acting.{AsksWake, IsWokenOn}
-use Rattle.kernel_cell.specs.declared.results.Woken.TheVariants as woken
-use Rattle.kernel_cell.proofs.RecordedSteps.{kernel_early, log_short, constants_early, live_there, waits_here, wake_can, wake_few, same_given, fits_wake, recorded_wake, woken_runs, woken_ends}
+use Rattle.kernel_cell.proofs.RecordedSteps.{kernel_early, log_short, constants_early, live_there, wake_can, wake_few, same_given, fits_wake, recorded_wake, keeps_none, woken_there}
 use Rattle.kernel_cell.proofs.recorded.Recorded.wake.Goals as goal
 
 pub given-given-requires : goal.given-given-requires
@@ -50,62 +49,37 @@ append_call-requires-clause-fits g c =
     let live = live_there g.J.Naming.launch g.J.Naming.keeps_all self.keeper.log self.kernel self.constants self.kept c.requires.recorded c.args.pid (c.if-not-live.ensures.0 refl) in
     let a = (subst (λ (ts : List ℕ). AsksWake (world g.J.Naming.launch self.keeper.log) c.args.pid c.args.tid ts c.args.guest.now) (sym c.replace.ensures.value) (c.requires.asks live)) in
     let given_is = (same_given c.args.guest.now c.args.tid c.in-Some.kept.now c.in-Some-wake.call _ c.given-given.result c.in-Some.ensures c.in-Some-wake.ensures.kept c.given-given.ensures) in
-    let is_wake = c.in-Some-wake.ensures.woken (thread_at (world g.J.Naming.launch self.keeper.log).state c.args.pid c.args.tid).since
-    (waits_here g.J.Naming.launch g.J.Naming.keeps_all self.keeper.log self.kernel self.constants self.kept c.requires.recorded c.args.pid c.args.tid c.args.turns.now c.args.guest.now (c.requires.asks live) c.in-Some-wake.call c.in-Some-wake.ensures.kept) in
     fits_wake g.J.Naming.launch g.J.Naming.keeps_all self.keeper.log self.kernel self.constants self.kept c.requires.recorded c.args.pid c.args.tid c.replace.result c.args.guest.now a c.in-Some-wake.call c.in-Some-wake.ensures.kept c.given-given.result given_is c.in-Some-wake.answer c.wake.new.self c.moment.result c.moment.ensures
-    c.in-Some-wake.ensures.ready is_wake live
+    c.in-Some-wake.ensures.ready c.in-Some-wake.ensures.woken live
 
 pub append_call-requires-clause-room : goal.append_call-requires-clause-room
 append_call-requires-clause-room g c =
     let self = c.args.self.now in
     log_short g.J.Naming.launch g.J.Naming.keeps_all self.keeper.log self.kernel self.constants self.kept c.requires.recorded
 
-pub returns-then-live-clause-recorded : goal.returns-then-live-clause-recorded
-returns-then-live-clause-recorded g c =
+pub returns-clause-recorded : goal.returns-clause-recorded
+returns-clause-recorded g c =
     let self = c.args.self.now in
     let live = live_there g.J.Naming.launch g.J.Naming.keeps_all self.keeper.log self.kernel self.constants self.kept c.requires.recorded c.args.pid (c.if-not-live.ensures.0 refl) in
     let a = (subst (λ (ts : List ℕ). AsksWake (world g.J.Naming.launch self.keeper.log) c.args.pid c.args.tid ts c.args.guest.now) (sym c.replace.ensures.value) (c.requires.asks live)) in
     let given_is = (same_given c.args.guest.now c.args.tid c.in-Some.kept.now c.in-Some-wake.call _ c.given-given.result c.in-Some.ensures c.in-Some-wake.ensures.kept c.given-given.ensures) in
-    let is_wake = c.in-Some-wake.ensures.woken (thread_at (world g.J.Naming.launch self.keeper.log).state c.args.pid c.args.tid).since
-    (waits_here g.J.Naming.launch g.J.Naming.keeps_all self.keeper.log self.kernel self.constants self.kept c.requires.recorded c.args.pid c.args.tid c.args.turns.now c.args.guest.now (c.requires.asks live) c.in-Some-wake.call c.in-Some-wake.ensures.kept) in
     recorded_wake g.J.Naming.launch g.J.Naming.keeps_all self.keeper.log self.kernel self.constants self.kept c.requires.recorded c.args.pid c.args.tid c.replace.result c.args.guest.now a c.in-Some-wake.call c.in-Some-wake.ensures.kept c.given-given.result given_is c.in-Some-wake.answer c.wake.new.self c.moment.result c.moment.ensures
-    c.in-Some-wake.ensures.ready is_wake live c.append_call.new.self.log (ap (λ k. k.log) c.append_call.ensures) c.take_call.new.self
+    c.in-Some-wake.ensures.ready c.in-Some-wake.ensures.woken live c.append_call.new.self.log (ap (λ k. k.log) c.append_call.ensures) c.take_call.new.self
     (takes_reserved _ self.kept c.reserve.new.self _ c.reserve.ensures.all c.reserve.ensures.entries c.reserve.ensures.denied
     (record { all_is = c.take_call.ensures.all; entries_are = c.take_call.ensures.entries; denied_are = c.take_call.ensures.denied }))
 
-pub returns-then-live-clause-woken : goal.returns-then-live-clause-woken
-returns-then-live-clause-woken g c =
+pub returns-clause-woken : goal.returns-clause-woken
+returns-clause-woken g c =
     let self = c.args.self.now in
     let live = live_there g.J.Naming.launch g.J.Naming.keeps_all self.keeper.log self.kernel self.constants self.kept c.requires.recorded c.args.pid (c.if-not-live.ensures.0 refl) in
     let a = (subst (λ (ts : List ℕ). AsksWake (world g.J.Naming.launch self.keeper.log) c.args.pid c.args.tid ts c.args.guest.now) (sym c.replace.ensures.value) (c.requires.asks live)) in
     let given_is = (same_given c.args.guest.now c.args.tid c.in-Some.kept.now c.in-Some-wake.call _ c.given-given.result c.in-Some.ensures c.in-Some-wake.ensures.kept c.given-given.ensures) in
-    let is_wake = c.in-Some-wake.ensures.woken (thread_at (world g.J.Naming.launch self.keeper.log).state c.args.pid c.args.tid).since
-    (waits_here g.J.Naming.launch g.J.Naming.keeps_all self.keeper.log self.kernel self.constants self.kept c.requires.recorded c.args.pid c.args.tid c.args.turns.now c.args.guest.now (c.requires.asks live) c.in-Some-wake.call c.in-Some-wake.ensures.kept) in
-    subst (λ ts. IsWokenOn g.J.Naming.launch self.keeper.log c.args.pid c.args.tid ts c.answer_woken.new.self c.append_call.new.self.log woken.Runs) c.replace.ensures.value
-    (woken_runs g.J.Naming.launch g.J.Naming.keeps_all self.keeper.log self.kernel self.constants self.kept c.requires.recorded c.args.pid c.args.tid c.replace.result c.args.guest.now a c.in-Some-wake.call c.in-Some-wake.ensures.kept c.given-given.result given_is c.in-Some-wake.answer c.wake.new.self c.moment.result c.moment.ensures
-    c.in-Some-wake.ensures.ready is_wake live c.append_call.new.self.log (ap (λ k. k.log) c.append_call.ensures) c.answer_woken.new.self c.answer_woken.ensures (c.if-live.ensures.0 refl))
+    subst (λ ts. IsWokenOn g.J.Naming.launch self.keeper.log c.args.pid c.args.tid ts c.answer_woken.new.self c.append_call.new.self.log c.woken.result) c.replace.ensures.value
+    (woken_there g.J.Naming.launch g.J.Naming.keeps_all self.keeper.log self.kernel self.constants self.kept c.requires.recorded c.args.pid c.args.tid c.replace.result c.args.guest.now a c.in-Some-wake.call c.in-Some-wake.ensures.kept c.given-given.result given_is c.in-Some-wake.answer c.wake.new.self c.moment.result c.moment.ensures
+    c.in-Some-wake.ensures.ready c.in-Some-wake.ensures.woken live c.append_call.new.self.log (ap (λ k. k.log) c.append_call.ensures) c.answer_woken.new.self c.answer_woken.ensures
+    c.woken.result c.live-2.result c.is_parked-waits.result c.woken.ensures c.is_parked-waits.ensures c.live-2.ensures)
 
-pub returns-else-live-clause-recorded : goal.returns-else-live-clause-recorded
-returns-else-live-clause-recorded g c =
-    let self = c.args.self.now in
-    let live = live_there g.J.Naming.launch g.J.Naming.keeps_all self.keeper.log self.kernel self.constants self.kept c.requires.recorded c.args.pid (c.if-not-live.ensures.0 refl) in
-    let a = (subst (λ (ts : List ℕ). AsksWake (world g.J.Naming.launch self.keeper.log) c.args.pid c.args.tid ts c.args.guest.now) (sym c.replace.ensures.value) (c.requires.asks live)) in
-    let given_is = (same_given c.args.guest.now c.args.tid c.in-Some.kept.now c.in-Some-wake.call _ c.given-given.result c.in-Some.ensures c.in-Some-wake.ensures.kept c.given-given.ensures) in
-    let is_wake = c.in-Some-wake.ensures.woken (thread_at (world g.J.Naming.launch self.keeper.log).state c.args.pid c.args.tid).since
-    (waits_here g.J.Naming.launch g.J.Naming.keeps_all self.keeper.log self.kernel self.constants self.kept c.requires.recorded c.args.pid c.args.tid c.args.turns.now c.args.guest.now (c.requires.asks live) c.in-Some-wake.call c.in-Some-wake.ensures.kept) in
-    recorded_wake g.J.Naming.launch g.J.Naming.keeps_all self.keeper.log self.kernel self.constants self.kept c.requires.recorded c.args.pid c.args.tid c.replace.result c.args.guest.now a c.in-Some-wake.call c.in-Some-wake.ensures.kept c.given-given.result given_is c.in-Some-wake.answer c.wake.new.self c.moment.result c.moment.ensures
-    c.in-Some-wake.ensures.ready is_wake live c.append_call.new.self.log (ap (λ k. k.log) c.append_call.ensures) c.take_call.new.self
-    (takes_reserved _ self.kept c.reserve.new.self _ c.reserve.ensures.all c.reserve.ensures.entries c.reserve.ensures.denied
-    (record { all_is = c.take_call.ensures.all; entries_are = c.take_call.ensures.entries; denied_are = c.take_call.ensures.denied }))
-
-pub returns-else-live-clause-woken : goal.returns-else-live-clause-woken
-returns-else-live-clause-woken g c =
-    let self = c.args.self.now in
-    let live = live_there g.J.Naming.launch g.J.Naming.keeps_all self.keeper.log self.kernel self.constants self.kept c.requires.recorded c.args.pid (c.if-not-live.ensures.0 refl) in
-    let a = (subst (λ (ts : List ℕ). AsksWake (world g.J.Naming.launch self.keeper.log) c.args.pid c.args.tid ts c.args.guest.now) (sym c.replace.ensures.value) (c.requires.asks live)) in
-    let given_is = (same_given c.args.guest.now c.args.tid c.in-Some.kept.now c.in-Some-wake.call _ c.given-given.result c.in-Some.ensures c.in-Some-wake.ensures.kept c.given-given.ensures) in
-    let is_wake = c.in-Some-wake.ensures.woken (thread_at (world g.J.Naming.launch self.keeper.log).state c.args.pid c.args.tid).since
-    (waits_here g.J.Naming.launch g.J.Naming.keeps_all self.keeper.log self.kernel self.constants self.kept c.requires.recorded c.args.pid c.args.tid c.args.turns.now c.args.guest.now (c.requires.asks live) c.in-Some-wake.call c.in-Some-wake.ensures.kept) in
-    subst (λ ts. IsWokenOn g.J.Naming.launch self.keeper.log c.args.pid c.args.tid ts c.answer_woken.new.self c.append_call.new.self.log woken.Ends) c.replace.ensures.value
-    (woken_ends g.J.Naming.launch g.J.Naming.keeps_all self.keeper.log self.kernel self.constants self.kept c.requires.recorded c.args.pid c.args.tid c.replace.result c.args.guest.now a c.in-Some-wake.call c.in-Some-wake.ensures.kept c.given-given.result given_is c.in-Some-wake.answer c.wake.new.self c.moment.result c.moment.ensures
-    c.in-Some-wake.ensures.ready is_wake live c.append_call.new.self.log (ap (λ k. k.log) c.append_call.ensures) c.answer_woken.new.self (λ on. true≢false (sym (c.if-live.ensures.1 on))))
+pub returns-clause-turns : goal.returns-clause-turns
+returns-clause-turns g c =
+    keeps_none c.args.guest.now c.answer_woken.new.self c.args.turns.now c.replace.new.dest c.woken.result c.live-2.result c.is_parked-waits.result c.woken.ensures
+    (c.replace.ensures.after ∙ c.new.ensures)

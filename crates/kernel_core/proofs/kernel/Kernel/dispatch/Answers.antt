@@ -1,6 +1,7 @@
-use Rattle.std.proofs.Common.{◌≡◌, true, Some, None, refl, sym, ap, subst, ◌∙◌}
+use Rattle.std.proofs.Common.{◌≡◌, true, false, List, Some, None, refl, sym, ap, subst, ◌∙◌}
 use Rattle.std.proofs.lemmas.Result.{IfOk-weaker}
 use Rattle.std.specs.FinMap.{get}
+use Rattle.abi_structures.specs.declared.events.Subscription.{Subscription}
 use Rattle.abi_types.specs.Families.{call_of_change, call_of_entry, call_of_file, call_of_offset, call_of_open, call_of_socket}
 use Rattle.abi_types.specs.declared.call.Call.{Call}
 use Rattle.abi_types.specs.declared.call.Call.TheVariants as call
@@ -12,8 +13,9 @@ use Rattle.kernel_model.specs.Calls.{meaning_of, named, refusal, takes_memory}
 use Rattle.kernel_model.specs.Families.ClockCalls.{drawn_by, real_time}
 use Rattle.kernel_model.specs.Families.DescriptorCalls.{lowest_free, stat_get}
 use Rattle.kernel_model.specs.Families.ForkCalls.{fork_at}
-use Rattle.kernel_model.specs.Families.LockWords.{unlocked}
-use Rattle.kernel_model.specs.Families.ProcessCalls.{exit_of, left_with, made_in, raise_of, signal_of}
+use Rattle.kernel_model.specs.Families.ProcessCalls.{exit_of, left_in, made_in, raise_of, signal_of}
+use Rattle.kernel_model.specs.Families.LockCalls.{signal_in, unlock_in}
+use Rattle.kernel_model.specs.Families.Polls.{begins_with_lock}
 use Rattle.kernel_model.specs.Families.SocketCalls.{create, made_of}
 use Rattle.kernel_model.specs.Laws.{HasAll}
 use Rattle.kernel_model.specs.Outcome.{Outcome, IsSuccess, replies}
@@ -25,6 +27,7 @@ use Rattle.kernel_model.specs.View.{whole}
 use Rattle.kernel_model.proofs.Valids.{release_valid, same_value}
 use Rattle.kernel_parts.specs.Changes.{change_outcome}
 use Rattle.poll_set.specs.Polls.{poll_outcome}
+use Rattle.poll_set.proofs.PollReads.{poll_by_stage}
 use Rattle.kernel_parts.specs.Waiting.{fd_of_socket}
 use Rattle.kernel_core.specs.Entries.{entry_outcome}
 use Rattle.kernel_core.specs.Files.{file_outcome}
@@ -35,7 +38,7 @@ use Rattle.kernel_core.specs.Sockets.{socket_on}
 use Rattle.kernel_core.proofs.Acts.{act_allowed, act_refused, by_outcome, stat_get_sets_nothing}
 use Rattle.kernel_core.proofs.Channels.{socket_does}
 use Rattle.kernel_core.proofs.EntryCalls.{entries_does, first_is_named}
-use Rattle.kernel_core.proofs.Families.{all_named, answered_does, answered_is, change_does, change_is, change_replaces, change_takes_memory, ends_is, entries_is, entries_on, exec_is, exit_is, file_is, file_on, fork_is, new_thread_is, offset_is, offset_on, on_err_all, on_err_both, open_is, poll_does, poll_in, poll_is, poll_may_lack, poll_sets_nothing, raise_is, random_is, resolution_is, socket_is, state_is, thread_exit_is, time_is, unbuilt_does, unbuilt_is, zeros_does, zeros_is}
+use Rattle.kernel_core.proofs.Families.{all_named, answered_does, answered_is, change_does, change_is, change_replaces, change_takes_memory, ends_is, entries_is, entries_on, exec_is, exit_is, file_is, file_on, fork_is, new_thread_is, offset_is, offset_on, on_err_all, on_err_both, open_is, poll_does, poll_in, poll_is, poll_may_lack, poll_sets_nothing, raise_is, random_is, resolution_is, signal_is, socket_is, state_is, thread_exit_is, time_is, unbuilt_does, unbuilt_is, unlock_is, zeros_does, zeros_is}
 use Rattle.kernel_core.proofs.FileCalls.{file_does}
 use Rattle.kernel_core.proofs.OffsetCalls.{offset_does}
 use Rattle.kernel_core.proofs.OpenCalls.{open_does}
@@ -377,11 +380,34 @@ returns-in-ThreadExit-clause-ok c =
     let who = c.args.who.now in
     let lock = c.in-ThreadExit.lock in
     let word = c.in-ThreadExit.word in
-    let o = left_with who.pid who.tid (get S.processes who.pid) lock (unlocked who.tid word) in
+    let o = left_in who.pid who.tid lock word (get S.processes who.pid) in
     let is = allowed a (call.ThreadExit lock word c.in-ThreadExit.scope) o c.in_default-refusal.is
     (thread_exit_is c.args.call.now c.family.result c.family.ensures lock word c.in-ThreadExit.scope c.in-ThreadExit.is) refl in
     by_outcome c.args.constants.now S c.thread_exit.new.self who c.args.call.now (answer.Reply c.thread_exit.result) o is
     (c.thread_exit.ensures.reply, c.thread_exit.ensures.state)
+
+pub returns-in-Unlock-clause-ok : goal.returns-in-Unlock-clause-ok
+returns-in-Unlock-clause-ok c =
+    let a = (goal.at.returns-in-Unlock-clause-ok c).After-refusal in
+    let S = c.args.self.now in
+    let who = c.args.who.now in
+    let lock = c.in-Unlock.lock in
+    let word = c.in-Unlock.word in
+    let o = unlock_in who.pid who.tid lock word (get S.processes who.pid) in
+    let is = allowed a (call.LockUnlock lock word c.in-Unlock.scope) o c.in_default-refusal.is
+    (unlock_is c.args.call.now c.family.result c.family.ensures lock word c.in-Unlock.scope c.in-Unlock.is) refl in
+    by_outcome c.args.constants.now S c.lock_unlock.new.self who c.args.call.now c.lock_unlock.result o is c.lock_unlock.ensures
+
+pub returns-in-Signal-clause-ok : goal.returns-in-Signal-clause-ok
+returns-in-Signal-clause-ok c =
+    let a = (goal.at.returns-in-Signal-clause-ok c).After-refusal in
+    let S = c.args.self.now in
+    let who = c.args.who.now in
+    let condvar = c.in-Signal.condvar in
+    let o = signal_in who.pid condvar c.in-Signal.n (get S.processes who.pid) in
+    let is = allowed a (call.CondvarSignal condvar c.in-Signal.word c.in-Signal.scope c.in-Signal.n) o c.in_default-refusal.is
+    (signal_is c.args.call.now c.family.result c.family.ensures condvar c.in-Signal.word c.in-Signal.scope c.in-Signal.n c.in-Signal.is) refl in
+    by_outcome c.args.constants.now S c.condvar_signal.new.self who c.args.call.now c.condvar_signal.result o is c.condvar_signal.ensures
 
 -- ---- calls that change nothing, and the end of the process
 
@@ -412,6 +438,10 @@ returns-in-Zeros-clause-ok c =
     (zeros_does c.args.call.now c.in-Zeros.place c.args.constants.now (whole S) c.args.who.now c.in-Some.table.now
     (zeros_is c.args.call.now c.family.result c.family.ensures c.in-Zeros.place c.in-Zeros.is) ∙ ap replies (sym c.placed.ensures)))
 
+-- the first subscription is of no lock and no condition variable
+no_lock : (c : After-family) (subscriptions : List Subscription) → c.args.call.now ≡ call.Poll subscriptions → begins_with_lock subscriptions ≡ false
+no_lock c subscriptions same = sym (poll_by_stage subscriptions) ∙ ap (λ (it : Call). (meaning_of it).by_stage) (sym same) ∙ c.requires.events
+
 pub returns-in-Poll-clause-ok : goal.returns-in-Poll-clause-ok
 returns-in-Poll-clause-ok c =
     let a = (goal.at.returns-in-Poll-clause-ok c).After-refusal in
@@ -420,8 +450,9 @@ returns-in-Poll-clause-ok c =
     let subscriptions = c.in-Poll.subscriptions.now in
     let table = c.in-Some.table.now in
     let o = poll_in c.args.constants.now S who table subscriptions in
-    let is = allowed a (call.Poll subscriptions) o c.in_default-refusal.is (poll_is c.args.call.now c.family.result c.family.ensures c.in-Poll.subscriptions c.in-Poll.is)
-    (poll_does c.args.constants.now S who table subscriptions) in
+    let same = poll_is c.args.call.now c.family.result c.family.ensures c.in-Poll.subscriptions c.in-Poll.is in
+    let is = allowed a (call.Poll subscriptions) o c.in_default-refusal.is same
+    (poll_does c.args.constants.now S who table subscriptions (no_lock (goal.at.returns-in-Poll-clause-ok c).After-family subscriptions same)) in
     IfOk-weaker _ _ _ (λ given answered. by_outcome c.args.constants.now S S who c.args.call.now given o is (
       answered ∙ (λ i. (poll_outcome (c.around-around.ensures.constants i) (c.around-around.ensures.opens i) (c.around-around.ensures.channels i) (c.around-around.ensures.statuses i)
           (c.around-around.ensures.moment i) table ((c.who.view_is i).since) subscriptions).answer),
@@ -438,12 +469,13 @@ returns-in-Poll-clause-err c =
     let table = c.in-Some.table.now in
     let o = poll_in c.args.constants.now S who table subscriptions in
     let same = poll_is c.args.call.now c.family.result c.family.ensures c.in-Poll.subscriptions c.in-Poll.is in
-    let is = allowed a (call.Poll subscriptions) o c.in_default-refusal.is same (poll_does c.args.constants.now S who table subscriptions) in
+    let is = allowed a (call.Poll subscriptions) o c.in_default-refusal.is same
+    (poll_does c.args.constants.now S who table subscriptions (no_lock (goal.at.returns-in-Poll-clause-err c).After-family subscriptions same)) in
     on_err_both c.poll.result c.poll.ensures.err c.poll.ensures.err (λ succeeds _.
     let done : IsSuccess o.answer =
     subst IsSuccess (λ i. (poll_outcome (c.around-around.ensures.constants i) (c.around-around.ensures.opens i) (c.around-around.ensures.channels i) (c.around-around.ensures.statuses i)
     (c.around-around.ensures.moment i) table ((c.who.view_is i).since) subscriptions).answer) succeeds in
-    lacks a S (call.Poll subscriptions) o same is (poll_may_lack c.args.constants.now S who table subscriptions done) done refl)
+    lacks a S (call.Poll subscriptions) o same is (poll_may_lack subscriptions) done refl)
 
 pub returns-in-Answered-clause-ok : goal.returns-in-Answered-clause-ok
 returns-in-Answered-clause-ok c =

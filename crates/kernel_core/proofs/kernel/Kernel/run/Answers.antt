@@ -1,5 +1,8 @@
-use Rattle.std.proofs.Common.{◌≡◌, IsSome, is_some, sym, ap, subst, ◌∙◌}
+use Rattle.std.proofs.Common.{◌≡◌, false, Some, IsSome, is_some, sym, ap, subst, ◌∙◌}
+use Rattle.std.specs.FinMap.{get}
 use Rattle.abi_types.specs.declared.reply.Answer.TheVariants as answer
+use Rattle.abi_types.specs.declared.status.Status.TheVariants.{Live}
+use Rattle.kernel_model.specs.Calls.{meaning_of}
 use Rattle.kernel_model.specs.Outcome.{IsSuccess}
 use Rattle.kernel_model.specs.Release.{release}
 use Rattle.kernel_model.specs.State.{State, put_all, thread_of}
@@ -8,6 +11,7 @@ use Rattle.kernel_model.specs.Valid.{IsValid}
 use Rattle.kernel_model.specs.View.{whole}
 use Rattle.kernel_core.proofs.Acts.{done_is_step, lack_is_step}
 use Rattle.kernel_core.proofs.Parks.{park_lacks_is_step, parked_is_step, parked_left, parks_may}
+use Rattle.kernel_core.proofs.Waiters.{thread_is_live}
 use Rattle.kernel_core.proofs.kernel.Kernel.run.Goals as goal
 use Rattle.kernel_core.proofs.kernel.Kernel.run.Goals.{In-Ok-Parked}
 
@@ -43,10 +47,17 @@ answered c =
 valid : (c : In-Ok-Parked) → IsValid c.args.self.now
 valid c = subst IsValid c.self.view_is c.self.invariant.valid
 
+-- the call is no poll of a lock or a condition variable
+events : (c : In-Ok-Parked) → (meaning_of c.args.call.now).by_stage ≡ false
+events c = c.in_default.ensures.none
+
+live : (c : In-Ok-Parked) → get c.args.self.now.statuses c.args.who.now.pid ≡ Some Live
+live c = thread_is_live c.args.self.now c.args.who.now.pid c.args.who.now.tid (valid c) (ap is_some c.requires.runnable)
+
 -- it has done nothing else
 left : (c : In-Ok-Parked) → c.dispatch.new.self ≡ tick c.args.self.now
 left c =
-    parked_left c.args.constants.now c.args.self.now c.args.who.now c.args.call.now c.in-Ok-Parked.writes (answered c) c.dispatch.new.self (valid c)
+    parked_left c.args.constants.now c.args.self.now c.args.who.now c.args.call.now c.in-Ok-Parked.writes (events c) (live c) (answered c) c.dispatch.new.self (valid c)
     (c.in-Ok-Parked.ensures.ok.1
     ∙ ap (λ (S : State). release (put_all (outcome_by c.args.constants.now (whole (tick S)) c.args.who.now c.args.call.now).updates (tick S))) c.self.view_is)
 
@@ -58,16 +69,16 @@ park-requires-clause-there d =
 pub park-requires-clause-may : goal.park-requires-clause-may
 park-requires-clause-may d =
     let c = (goal.at.park-requires-clause-may d).In-Ok-Parked in
-    parks_may c.args.constants.now c.args.self.now c.args.who.now c.args.call.now c.in-Ok-Parked.writes (answered c)
+    parks_may c.args.constants.now c.args.self.now c.args.who.now c.args.call.now c.in-Ok-Parked.writes (events c) (live c) (answered c)
 
 pub returns-in-Ok-clause-step : goal.returns-in-Ok-clause-step
 returns-in-Ok-clause-step c =
     let a = (goal.at.returns-in-Ok-clause-step c).In-Ok-Parked in
-    parked_is_step c.args.constants.now c.args.self.now c.args.who.now c.args.call.now c.in-Ok-Parked.writes (answered a) c.dispatch.new.self c.park.new.self
+    parked_is_step c.args.constants.now c.args.self.now c.args.who.now c.args.call.now c.in-Ok-Parked.writes (events a) (live a) (answered a) c.dispatch.new.self c.park.new.self
     (valid a) (left a) c.in-Ok.ensures.ok
 
 pub returns-in-Err-park-clause-step : goal.returns-in-Err-park-clause-step
 returns-in-Err-park-clause-step c =
     let a = (goal.at.returns-in-Err-park-clause-step c).In-Ok-Parked in
-    park_lacks_is_step c.args.constants.now c.args.self.now c.args.who.now c.args.call.now c.in-Ok-Parked.writes (answered a) c.park.new.self
+    park_lacks_is_step c.args.constants.now c.args.self.now c.args.who.now c.args.call.now c.in-Ok-Parked.writes (events a) (live a) (answered a) c.park.new.self
     (answer.Reply c.refused.result) (c.in-Err-park.ensures.err ∙ left a) (ap answer.Reply c.refused.ensures)

@@ -1,4 +1,4 @@
-use Rattle.std.proofs.Common.{◌+◌, subst}
+use Rattle.std.proofs.Common.{◌+◌, None, subst}
 use Rattle.abi_types.specs.declared.who.Who.{Who}
 use Rattle.kernel_model.specs.Step.{IsStep}
 use Rattle.kernel_model.proofs.Refusals.{lack_is_denied, leaving_is_denied, step_denial, step_reported}
@@ -13,7 +13,7 @@ use Rattle.kernel_core.proofs.kernel.Kernel.step.Goals.{After-run}
 stepped : (c : After-run) → IsStep c.args.constants.now c.args.self.now (caller c.args.self.now c.args.pid c.args.tid) c.args.call.now c.run.result c.run.new.self
 stepped c =
     subst (λ (who : Who). IsStep c.args.constants.now c.args.self.now who c.args.call.now c.run.result c.run.new.self)
-    (λ i. record { pid = c.args.pid; tid = c.args.tid; since = (c.self.view_is i).clock + 1000 }) c.run.ensures.step
+    (λ i. record { pid = c.args.pid; tid = c.args.tid; since = (c.self.view_is i).clock + 1000; stage = None }) c.run.ensures.step
 
 pub returns-clause-valid : goal.returns-clause-valid
 returns-clause-valid c = step_keeps_valid _ _ _ _ _ _ (stepped c) c.run.ensures.valid

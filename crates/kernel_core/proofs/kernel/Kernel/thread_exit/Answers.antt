@@ -1,39 +1,57 @@
-use Rattle.std.proofs.Common.{ℕ, Option, sym, ap, ◌∙◌}
+use Rattle.std.proofs.Common.{◌≡◌, ℕ, Option, None, Some, is_some, sym, ap, ◌∙◌}
 use Rattle.std.specs.FinMap.{get}
-use Rattle.abi_types.specs.declared.reply.Answer.TheVariants as answer
-use Rattle.abi_types.specs.declared.reply.Reply.{Reply}
-use Rattle.abi_types.specs.declared.reply.WordWrites.TheVariants.{One}
-use Rattle.kernel_model.specs.Families.ProcessCalls.{left_with}
+use Rattle.maps.specs.Maps.{get-insert-same}
+use Rattle.kernel_model.specs.Families.Locks.{release_of, released_word, unlocked_own, with_threads}
+use Rattle.kernel_model.specs.Families.ProcessCalls.{left_in, left_updates, left_with}
 use Rattle.kernel_model.specs.Release.{release}
-use Rattle.kernel_model.specs.State.{put_all}
+use Rattle.kernel_model.specs.State.{State, ProcessState, put_all}
 use Rattle.kernel_model.proofs.Valids.{release_valid}
+use Rattle.kernel_core.proofs.Leaving.{process_again, with_process}
+use Rattle.kernel_core.proofs.OwnCalls.{left_again, made, refused_same}
 use Rattle.kernel_core.proofs.kernel.Kernel.thread_exit.Goals as goal
+use Rattle.kernel_core.proofs.kernel.Kernel.thread_exit.Goals.{After-release_lock}
 
-pub returns-in_default-clause-reply : goal.returns-in_default-clause-reply
-returns-in_default-clause-reply c =
-    let who = c.args.who.now in
-    let own = get c.args.self.now.processes who.pid in
-    ap answer.Reply c.refused.ensures
-    ∙ sym (ap (λ (w : Option ℕ). (left_with who.pid who.tid own c.args.lock w).answer) (sym c.unlocked.ensures ∙ c.in_default.is))
+-- what the process has of its own
+owned : (c : After-release_lock) → (own : ProcessState) × (get c.args.self.now.processes c.args.who.now.pid ≡ Some own)
+owned c = made (get c.args.self.now.processes c.args.who.now.pid) (c.requires.valid.nearly.owns c.args.who.now.pid ∙ c.requires.there)
 
 pub returns-in_default-clause-state : goal.returns-in_default-clause-state
-returns-in_default-clause-state c =
-    let who = c.args.who.now in
-    let S = c.args.self.now in
-    sym (ap (λ (w : Option ℕ). release (put_all (left_with who.pid who.tid (get S.processes who.pid) c.args.lock w).updates S))
-    (sym c.unlocked.ensures ∙ c.in_default.is)
-    ∙ release_valid S c.requires.valid)
+returns-in_default-clause-state d =
+    let c = (goal.at.returns-in_default-clause-state d).After-release_lock in
+    let S : State = c.args.self.now in
+    let pid = c.args.who.now.pid in
+    let tid = c.args.who.now.tid in
+    let lock = c.args.lock in
+    let word = c.args.word in
+    let own = owned c in
+    let left = c.release_lock.ensures own.0 own.1 in
+    let none : released_word (release_of tid word) lock own.0.threads ≡ None = sym left.0 ∙ d.in_default.is in
+    left.1 ∙ ap (λ threads. with_process S pid (with_threads own.0 threads)) (refused_same (release_of tid word) lock own.0.threads none)
+    ∙ process_again S pid own.0 own.1
+    ∙ sym (ap (λ o. release (put_all (left_in pid tid lock word o).updates S)) own.1
+    ∙ ap (λ (w : Option ℕ). release (put_all (left_with pid tid (Some (unlocked_own lock word tid own.0)) lock w).updates S)) none ∙ release_valid S c.requires.valid)
 
-pub returns-clause-reply : goal.returns-clause-reply
-returns-clause-reply c =
-    let who = c.args.who.now in
-    ap (λ (r : Reply). answer.Reply (record r { writes = One (record { address = c.args.lock; word = c.in-Some.left }) })) c.success.ensures
-    ∙ sym (ap (λ (w : Option ℕ). (left_with who.pid who.tid (get c.args.self.now.processes who.pid) c.args.lock w).answer) (sym c.unlocked.ensures ∙ c.in-Some.is))
+pub end_thread-requires : goal.end_thread-requires
+end_thread-requires d =
+    let c = (goal.at.end_thread-requires d).After-release_lock in
+    let own = owned c in
+    ap (λ (X : State). is_some (get X.statuses c.args.who.now.pid)) (c.release_lock.ensures own.0 own.1).1 ∙ c.requires.there
 
 pub returns-clause-state : goal.returns-clause-state
-returns-clause-state c =
-    let who = c.args.who.now in
-    let S = c.args.self.now in
-    c.end_thread.ensures
-    ∙ sym (ap (λ (w : Option ℕ). release (put_all (left_with who.pid who.tid (get S.processes who.pid) c.args.lock w).updates S))
-    (sym c.unlocked.ensures ∙ c.in-Some.is))
+returns-clause-state d =
+    let c = (goal.at.returns-clause-state d).After-release_lock in
+    let S : State = c.args.self.now in
+    let pid = c.args.who.now.pid in
+    let tid = c.args.who.now.tid in
+    let lock = c.args.lock in
+    let word = c.args.word in
+    let own = owned c in
+    let left = c.release_lock.ensures own.0 own.1 in
+    let unlocked = unlocked_own lock word tid own.0 in
+    let some : released_word (release_of tid word) lock own.0.threads ≡ Some d.in-Some.left = sym left.0 ∙ d.in-Some.is in
+    d.end_thread.ensures
+    ∙ ap (λ (X : State). release (put_all (left_updates pid tid (get X.processes pid)) X)) left.1
+    ∙ ap (λ o. release (put_all (left_updates pid tid o) (with_process S pid unlocked))) (get-insert-same S.processes pid unlocked)
+    ∙ ap release (left_again S pid tid unlocked)
+    ∙ sym (ap (λ o. release (put_all (left_in pid tid lock word o).updates S)) own.1
+    ∙ ap (λ (w : Option ℕ). release (put_all (left_with pid tid (Some unlocked) lock w).updates S)) some)

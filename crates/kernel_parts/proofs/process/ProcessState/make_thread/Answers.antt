@@ -6,9 +6,11 @@ use Rattle.kernel_model.specs.Outcome.{Outcome, IsSuccess}
 use Rattle.kernel_model.specs.OwnChanges.{next_thread, with_next_thread}
 use Rattle.kernel_model.specs.Reply.{success}
 use Rattle.kernel_model.specs.State.{ProcessState}
-use Rattle.kernel_parts.specs.OwnCalls.{own_after}
+use Rattle.guest_locks.specs.Queues.{AreFew}
+use Rattle.kernel_parts.specs.OwnCalls.{new_thread, own_after}
 use Rattle.kernel_parts.specs.contracts.process.ProcessState.{the_view}
-use Rattle.kernel_parts.proofs.OwnCalls.{made_with, not_made}
+use Rattle.kernel_parts.proofs.FewThreads.{few_new}
+use Rattle.kernel_parts.proofs.OwnCalls.{can_be_given, made_with, not_made}
 use Rattle.kernel_parts.proofs.Tests.{on_err}
 use Rattle.kernel_parts.proofs.process.ProcessState.make_thread.Goals as goal
 
@@ -36,3 +38,10 @@ returns-clause-ok c = λ p.
 pub returns-in_err-insert-clause-only : goal.returns-in_err-insert-clause-only
 returns-in_err-insert-clause-only c = on_err c.from_residual.result (λ p.
     subst (λ (o : Outcome). IsSuccess o.answer) (sym (made_with p c.args.tid c.in-Some.number c.args.self.now c.in-Some.ensures).0) refl)
+
+pub invariant_of-self-2 : goal.invariant_of-self-2
+invariant_of-self-2 c =
+    let V : ProcessState = the_view c.self.inside in
+    let can = can_be_given c.args.tid c.in-Some.number V (c.in-Some.ensures ∙ ap (new_thread c.args.tid) (sym c.self.view_is)) in
+    subst AreFew (sym (c.in_ok-insert.ensures.ok ∙ ap (λ (k : ℕ). insert V.threads k Runnable) c.from-key.ensures))
+    (few_new V.threads c.in-Some.number Runnable can.0 can.1 can.2 c.self.invariant)

@@ -1,0 +1,4 @@
+pub mod Firsts
+pub mod Changing
+pub mod Handed
+pub mod Signalled

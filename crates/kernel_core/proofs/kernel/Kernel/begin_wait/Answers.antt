@@ -1,0 +1,43 @@
+use Rattle.std.proofs.Common.{◌≡◌, Some, sym, ap, subst, ◌∙◌}
+use Rattle.std.specs.FinMap.{get, insert}
+use Rattle.abi_types.specs.declared.thread.Thread.{Thread}
+use Rattle.abi_types.specs.declared.who.Who.{Who}
+use Rattle.kernel_model.specs.State.{State}
+use Rattle.kernel_model.specs.Waits.{thread_set, waiting, with_thread}
+use Rattle.kernel_model.proofs.Parking.{waiting_may}
+use Rattle.kernel_core.specs.Kernel.{IsKept}
+use Rattle.kernel_core.specs.contracts.kernel.Kernel.{the_view}
+use Rattle.kernel_core.proofs.Parks.{after_kept, set_after}
+use Rattle.kernel_core.proofs.kernel.Kernel.begin_wait.Goals as goal
+use Rattle.kernel_core.proofs.kernel.Kernel.begin_wait.Goals.{After-park}
+
+-- the thread waits in the call
+abbrev thread : After-park → Thread
+thread c = waiting c.args.constants.now c.args.kept c.args.who.now c.args.self.now.clock
+
+same : (c : After-park) → c.from.result ≡ c.args.who.now.pid
+same c = c.from.ensures ∙ ap (λ (w : Who). w.pid) c.who.view_is
+
+there : (c : After-park) → get c.self.inside.processes c.args.who.now.pid ≡ Some c.get_mut-own.result.now
+there c = ap (get c.self.inside.processes) (sym (same c)) ∙ sym c.get_mut-own.ensures.value
+
+set : (c : After-park) → c.park.new.self ≡ thread_set c.args.who.now.tid (thread c) c.get_mut-own.result.now
+set c = c.park.ensures ∙ ap (λ (S : State). thread_set c.args.who.now.tid (waiting c.args.constants.now c.args.kept c.args.who.now S.clock) c.get_mut-own.result.now) c.self.view_is
+
+-- the state with that process
+put : (c : After-park) → record (the_view c.self.inside) { processes = insert c.self.inside.processes c.from.result c.park.new.self }
+    ≡ record (the_view c.self.inside) { processes = insert c.self.inside.processes c.args.who.now.pid c.park.new.self }
+put c = λ i. record (the_view c.self.inside) { processes = insert c.self.inside.processes (same c i) c.park.new.self }
+
+pub invariant_of-self : goal.invariant_of-self
+invariant_of-self d =
+    let c = (goal.at.invariant_of-self d).After-park in
+    subst (λ (S : State). IsKept S c.self.inside.objects.counts) (sym (put c))
+    (after_kept (the_view c.self.inside) c.args.who.now.pid c.args.who.now.tid (thread c) c.get_mut-own.result.now c.park.new.self (there c)
+    c.self.inside.objects.counts (waiting_may c.args.constants.now c.args.kept c.args.who.now c.args.self.now.clock c.requires.may) c.self.invariant (set c))
+
+pub returns : goal.returns
+returns d =
+    let c = (goal.at.returns d).After-park in
+    put c ∙ set_after (the_view c.self.inside) c.args.who.now.pid c.args.who.now.tid (thread c) c.get_mut-own.result.now c.park.new.self (there c) (set c)
+    ∙ ap (λ S. with_thread S c.args.who.now.pid c.args.who.now.tid (thread c)) c.self.view_is

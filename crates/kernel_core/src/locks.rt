@@ -1,0 +1,101 @@
+//! Calls on locks and condition variables, and polls of them.
+ghost use Rattle.std.specs.Prelude.{◌≡◌, ◌<◌, ◌^◌, false, IfSome, IfNone, IsSome};
+ghost use Rattle.std.specs.FinMap as map;
+ghost use Rattle.kernel_core.specs.Locks.{BeginsWith, IsDoneBy};
+ghost use Rattle.kernel_model.specs.Calls.{meaning_of};
+ghost use Rattle.kernel_model.specs.Families.LockCalls.{signal_in, unlock_in, waited_outcome};
+ghost use Rattle.kernel_model.specs.State.{thread_of};
+ghost use Rattle.kernel_model.specs.Step.{IsStep};
+ghost use Rattle.kernel_model.specs.Valid.{IsValid};
+
+use crate::kernel::{Kernel, STEP_TIME};
+use abi_types::{Answer, Call, Constants, Errno, Subscription, TryClone, Who};
+use guest_locks::Told;
+use kernel_parts::look_again;
+use poll_set::lock_awaited;
+use right_rules::{refusal, refused};
+
+// The first subscription of a poll, where that is of a lock or a condition variable.
+pub(crate) fn lock_of(call: &Call) -> Option<&Subscription>
+    ensures some { IfSome result (λ first. BeginsWith first.now call.now) }
+    ensures none { IfNone result ((meaning_of call.now).by_stage ≡ false) }
+{
+    match call {
+        Call::Poll { subscriptions } => lock_awaited(subscriptions.as_slice()),
+        _ => None,
+    }
+}
+
+impl Kernel {
+    // Lets go of the lock at this address, whose word is this.
+    pub(crate) fn lock_unlock(&mut self, who: &Who, lock: u64, word: u32) -> Answer
+        requires there { IsSome (map.get self.old.statuses who.now.pid) }
+        ensures { IsDoneBy who.now.pid (unlock_in who.now.pid who.now.tid lock word) self.old result self.new }
+    {
+        let mut told = Told::new();
+        let own = self.processes.get_mut(u64::from(who.pid.0));
+        let answer = own.unlock(who.tid, lock, word, &mut told);
+        look_again(&mut self.channels, who.pid, &told);
+        answer
+    }
+
+    // Signals so many of the threads that wait at the condition variable at this address.
+    pub(crate) fn condvar_signal(&mut self, who: &Who, condvar: u64, n: u32) -> Answer
+        requires there { IsSome (map.get self.old.statuses who.now.pid) }
+        ensures { IsDoneBy who.now.pid (signal_in who.now.pid condvar n) self.old result self.new }
+    {
+        let mut told = Told::new();
+        let own = self.processes.get_mut(u64::from(who.pid.0));
+        let answer = own.signal(condvar, n, &mut told);
+        look_again(&mut self.channels, who.pid, &told);
+        answer
+    }
+
+    // What a poll of a lock or a condition variable comes to that isn't refused, before its thread waits.
+    fn ask_lock(&mut self, who: &Who, first: &Subscription) -> Answer
+        requires there { IsSome (thread_of self.old who.now.pid who.now.tid) }
+        ensures done { IsDoneBy who.now.pid (waited_outcome first.now.userdata first.now.what who.now.pid who.now.tid who.now.stage) self.old result self.new }
+        ensures there { IsSome (thread_of self.new who.now.pid who.now.tid) }
+        ensures moment { self.new.clock ≡ self.old.clock }
+    {
+        let mut told = Told::new();
+        let own = self.processes.get_mut(u64::from(who.pid.0));
+        let answer = own.lock_poll(who, first, &mut told);
+        look_again(&mut self.channels, who.pid, &told);
+        answer
+    }
+
+    // A poll that begins with a lock or a condition variable. The call is copied first: once its lock is handed on, there is to be no lack of
+    // memory.
+    pub(crate) fn lock_poll(
+        &mut self,
+        constants: &Constants,
+        who: &Who,
+        call: &Call,
+        first: &Subscription,
+    ) -> Answer
+        requires there { IsSome (thread_of self.old who.now.pid who.now.tid) }
+        requires begins { BeginsWith first.now call.now }
+        requires early { self.old.clock < 2 ^ 63 }
+        ensures step { IsStep constants.now self.old who.now call.now result self.new }
+        ensures valid { IsValid self.old }
+    {
+        self.clock += STEP_TIME;
+        let Some(table) = self.tables.get(u64::from(who.pid.0)) else {
+            return Answer::Reply(refused(Errno::Badf));
+        };
+        if let Some(reply) = refusal(table, call) {
+            return Answer::Reply(reply);
+        }
+        let Ok(kept) = call.copy() else {
+            return Answer::Reply(refused(Errno::Nomem));
+        };
+        match self.ask_lock(who, first) {
+            Answer::Reply(reply) => Answer::Reply(reply),
+            Answer::Parked(writes) => {
+                self.begin_wait(constants, who, kept);
+                Answer::Parked(writes)
+            }
+        }
+    }
+}

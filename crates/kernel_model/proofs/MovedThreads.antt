@@ -1,0 +1,91 @@
+-- States in which locks were given to threads of a process that wait, or such threads were signalled.
+--     moved_nearly_valid      a nearly valid state stays so
+--     moved_keeps, moved_counts      what becomes of each thread, and of what each process has made
+use Rattle.std.proofs.Common.{◌≡◌, ◌≢◌, inl, inr, ℕ, ◌<◌, ◌≤◌, Option, Some, is_some, refl, sym, ap, subst, ◌∙◌, arith}
+use Rattle.std.proofs.lemmas.Bool.Decides.{eqb_tells}
+use Rattle.std.specs.Ordering.{nat_cmp}
+use Rattle.std.specs.FinMap.{empty, get, get-empty, insert}
+use Rattle.std.specs.Option.{option_map}
+use Rattle.abi_types.specs.declared.counts.Counts.{Counts}
+use Rattle.abi_types.specs.declared.open_kind.OpenKind.{OpenKind}
+use Rattle.abi_types.specs.declared.open_kind.OpenKind.TheVariants.{File, Directory, End, Terminal, Process}
+use Rattle.maps.specs.Maps.{get-insert-same, get-insert-other, same_numbers}
+use Rattle.tree_model.specs.Entries.{here_or_other}
+use Rattle.kernel_model.specs.Families.Locks.{with_threads}
+use Rattle.kernel_model.specs.State.{State, ProcessState, Threads, counts_in, put_one, set_process, thread_in, thread_of, threads_of}
+use Rattle.kernel_model.specs.Valid.{HasBehind, IsNearlyValid}
+use Rattle.kernel_model.proofs.Children.{all_born, one_keeps, KeepsChildren}
+use Rattle.kernel_model.proofs.Locks.{keeps_same, Keeps, KeepsEach}
+use Rattle.kernel_model.proofs.Tests.{none_of, same_some}
+use Rattle.kernel_model.proofs.Valids.{some_again}
+
+abbrev threads_in : Option ProcessState → Option Threads
+threads_in own = option_map (λ (x : ProcessState). x.threads) own
+
+-- where there is no thread there is none after it
+still_none : (before after : Threads) → KeepsEach before after → before ≡ empty → after ≡ empty
+still_none before after keeps none =
+    same_numbers after empty (λ t.
+    none_of (get after t) ((keeps t).here ∙ ap (λ (m : Threads). is_some (get m t)) none ∙ ap is_some (get-empty nat_cmp t)) ∙ sym (get-empty nat_cmp t))
+
+module _ (S : State) (p : ℕ) (own : ProcessState) (threads : Threads) (there : get S.processes p ≡ Some own) (keeps : KeepsEach own.threads threads) where
+  abbrev after : State
+  after = put_one (set_process p (with_threads own threads)) S
+
+  here : get after.processes p ≡ Some (with_threads own threads)
+  here = get-insert-same S.processes p (with_threads own threads)
+
+  other : (q : ℕ) → q ≢ p → get after.processes q ≡ get S.processes q
+  other q apart = get-insert-other S.processes p (with_threads own threads) q apart
+
+  pub moved_counts : (q : ℕ) → counts_in (get after.processes q) ≡ counts_in (get S.processes q)
+  moved_counts q =
+      here_or_other (λ k. counts_in (get after.processes k) ≡ counts_in (get S.processes k)) p q (ap counts_in here ∙ sym (ap counts_in there))
+      (λ apart. ap counts_in (other q apart))
+
+  pub moved_keeps : (q t : ℕ) → Keeps (thread_of S q t) (thread_of after q t)
+  moved_keeps q t =
+      here_or_other (λ k. Keeps (thread_of S k t) (thread_of after k t)) p q
+      (subst (λ o. Keeps (thread_in (threads_in o) t) (thread_of after p t)) (sym there)
+      (subst (λ o. Keeps (get own.threads t) (thread_in (threads_in o) t)) (sym here) (keeps t)))
+      (λ apart. subst (λ o. Keeps (thread_of S q t) (thread_in (threads_in o) t)) (sym (other q apart)) (keeps_same (thread_of S q t)))
+
+  -- a process without threads has none still
+  still_bare : (q : ℕ) → threads_of S q ≡ Some empty → threads_of after q ≡ Some empty
+  still_bare q bare =
+      elim (eqb_tells q p) [
+        | inl is ↦ subst (λ k. threads_of after k ≡ Some empty) (sym is.1)
+            (ap threads_in here
+            ∙ ap Some (still_none own.threads threads keeps
+            (same_some own.threads empty (sym (ap threads_in there) ∙ subst (λ k. threads_of S k ≡ Some empty) is.1 bare))))
+        | inr apart ↦ ap threads_in (other q apart.1) ∙ bare
+      ]
+
+  behind_process : (kind : OpenKind) → HasBehind S kind → HasBehind after kind
+  behind_process (File q offset flags) h = h
+  behind_process (Directory q flags) h = h
+  behind_process (End reads writes flags) h = h
+  behind_process (Terminal which flags) h = h
+  behind_process (Process q object) h = h
+
+  same_children : KeepsChildren (Some own) (Some (with_threads own threads))
+  same_children = (refl, omega arith)
+
+  pub moved_nearly_valid : IsNearlyValid S → IsNearlyValid (put_one (set_process p (with_threads own threads)) S)
+  moved_nearly_valid v = record {
+    named = v.named;
+    behind = λ o kind e. behind_process kind (v.behind o kind e);
+    sole = v.sole;
+    tables = v.tables;
+    owns = λ q. some_again S.processes p own (with_threads own threads) q there ∙ v.owns q;
+    ended = λ q status is ends. ((v.ended q status is ends).0, still_bare q (v.ended q status is ends).1);
+    numbered = λ q t now. subst (λ (c : Counts). t ≤ c.threads) (sym (moved_counts q)) (v.numbered q t (sym (moved_keeps q t).here ∙ now));
+    made = λ q k small beyond fits. v.made q k small (subst (λ (c : Counts). c.objects < k) (moved_counts q) beyond) fits;
+    made_nodes = λ q k small beyond fits. v.made_nodes q k small (subst (λ (c : Counts). c.objects < k) (moved_counts q) beyond) fits;
+    made_channels = λ q k small beyond fits. v.made_channels q k small (subst (λ (c : Counts). c.objects < k) (moved_counts q) beyond) fits;
+    born = all_born S.processes (insert S.processes p (with_threads own threads))
+        (one_keeps S.processes p own (with_threads own threads) there same_children) v.born;
+    tree = v.tree;
+    waits = λ q t. (moved_keeps q t).may (v.waits q t);
+    channels = v.channels;
+  }
