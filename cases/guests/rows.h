@@ -4,7 +4,7 @@
  *
  * A row is one to four instructions at CODE, where a turn begins with them. Words that lead back stand all around, so that it is seen
  * where a row ends. Registers are given by their numbers. One that a row doesn't name has a number of its own, and must keep it. Two
- * can't be named: tp (4) and t5 (30), by which the way back is found.
+ * can't be named: tp (4) and t5 (30), by which the way back is found. A table has at most 400 rows, so that it ends below the memory of the rows.
  *
  * The memory beside a row:
  *   0x20000 to 0x21fff            may be read and written

@@ -1,0 +1,98 @@
+/* Loads and stores in a page whose rights change, and which goes and comes again: each as it may be then, and what was stored is there. */
+#include "steps.h"
+
+#define LD 0x40000
+#define SD 0x40008
+#define LB 0x40010
+#define SB 0x40018
+#define AMO 0x40020
+
+STEPS
+
+MAP(0x40000, 1)
+PUT(0x40000, 8, ld a0, 0(a0); ret; sd a1, 0(a0); ret; lb a0, 0(a0); ret; sb a1, 0(a0); ret)
+PUT(0x40020, 2, amoadd.d a0, a1, (a0); ret)
+PROTECT(0x40000, 1, EXEC)
+
+DIES(LD, 0x80008, 0, SEGV)
+DIES(SD, 0x80008, 5, SEGV)
+MAP(0x80000, 1)
+CALL(LD, 0x80008, 0, 0)
+CALL(SD, 0x80008, 5, 0x80008)
+CALL(LD, 0x80008, 0, 5)
+CALL(LD, 0x80005, 0, 0x5000000)
+CALL(AMO, 0x80008, 2, 5)
+CALL(LD, 0x80008, 0, 7)
+
+PROTECT(0x80000, 1, READ)
+CALL(LD, 0x80008, 0, 7)
+CALL(LD, 0x80005, 0, 0x7000000)
+CALL(LB, 0x80008, 0, 7)
+DIES(SD, 0x80008, 6, SEGV)
+DIES(SD, 0x80005, 6, SEGV)
+DIES(SB, 0x80008, 6, SEGV)
+DIES(AMO, 0x80008, 0, SEGV)
+
+PROTECT(0x80000, 1, WRITE)
+DIES(LD, 0x80008, 0, SEGV)
+DIES(LD, 0x80005, 0, SEGV)
+DIES(LB, 0x80008, 0, SEGV)
+DIES(AMO, 0x80008, 0, SEGV)
+CALL(SD, 0x80008, 6, 0x80008)
+CALL(SB, 0x80009, 1, 0x80009)
+
+PROTECT(0x80000, 1, READ | EXEC)
+CALL(LD, 0x80008, 0, 0x106)
+DIES(SD, 0x80008, 0, SEGV)
+DIES(SB, 0x80008, 0, SEGV)
+
+PROTECT(0x80000, 1, EXEC)
+DIES(LD, 0x80008, 0, SEGV)
+DIES(LB, 0x80008, 0, SEGV)
+DIES(SD, 0x80008, 0, SEGV)
+
+PROTECT(0x80000, 1, 0)
+DIES(LD, 0x80008, 0, SEGV)
+DIES(SD, 0x80008, 0, SEGV)
+
+PROTECT(0x80000, 1, READ | WRITE)
+CALL(LD, 0x80008, 0, 0x106)
+CALL(SD, 0x80008, 9, 0x80008)
+
+/* It goes, and comes again with zeros; it is mapped over. */
+UNMAP(0x80000, 1)
+DIES(LD, 0x80008, 0, SEGV)
+DIES(SD, 0x80008, 9, SEGV)
+MAP(0x80000, 1)
+CALL(LD, 0x80008, 0, 0)
+CALL(SD, 0x80008, 10, 0x80008)
+MAP(0x80000, 1)
+CALL(LD, 0x80008, 0, 0)
+CALL(SD, 0x80008, 11, 0x80008)
+CALL(LD, 0x80008, 0, 11)
+
+/* Others come and go meanwhile, before it and behind it: it stays. */
+MAP(0x60000, 4)
+CALL(SD, 0x61008, 1, 0x61008)
+CALL(LD, 0x80008, 0, 11)
+MAP(0x90000, 4)
+CALL(SD, 0x92008, 2, 0x92008)
+UNMAP(0x60000, 1)
+CALL(LD, 0x80008, 0, 11)
+CALL(LD, 0x61008, 0, 1)
+CALL(LD, 0x92008, 0, 2)
+DIES(LD, 0x60008, 0, SEGV)
+UNMAP(0x90000, 2)
+CALL(LD, 0x92008, 0, 2)
+CALL(LD, 0x61008, 0, 1)
+CALL(LD, 0x80008, 0, 11)
+UNMAP(0x80000, 1)
+DIES(LD, 0x80008, 0, SEGV)
+CALL(LD, 0x92008, 0, 2)
+CALL(LD, 0x61008, 0, 1)
+MAP(0x91000, 1)
+CALL(LD, 0x91008, 0, 0)
+CALL(LD, 0x92008, 0, 2)
+DIES(LD, 0x80008, 0, SEGV)
+
+END
