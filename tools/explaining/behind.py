@@ -3,7 +3,7 @@ import os
 import stat
 
 from explaining import launch_notes, refusals
-from explaining.command_words import USAGE, Words
+from explaining.command_words import Words
 from explaining.endings import ending_lines
 from explaining.refusals import Inputs
 
@@ -15,12 +15,12 @@ def explain(status, words, launch, watcher):
     """The lines for a run with these words and this launch text (None where it isn't known), whose output the watcher saw."""
     found = Words(words)
     if status == 2:
-        return [found.fault or "the words aren't those of a run", f"usage: {USAGE}", "see docs/COMMAND.md; `./cloudabi-run --help` lists the options"]
+        return [found.fault or "the words aren't those of a run", f"usage: {found.usage}", "see docs/COMMAND.md; `./cloudabi-run --help` lists the options"]
     if status in (65, 66, 67, 68, 70):
         return refusals.explain(watcher.begin.removesuffix(b"\n"), inputs_of(found, launch))
     if status == 69:
         return ["the report could not be written whole: the output is full or closed"]
-    return of_run(found, launch, watcher)
+    return [] if found.generates else of_run(found, launch, watcher)
 
 
 def inputs_of(found, launch):

@@ -4,11 +4,13 @@ import re
 from explaining.texts import maybe, shown
 
 USAGE = "cloudabi-run [--tree FILE] [--stdin FILE] [--workers N] [--turns N] [--key HEX] [--epoch NS] [--history] PROGRAM < LAUNCH-FILE"
-NUMBERS = {"workers": (1, 64), "turns": (1, 1_000_000_000), "epoch": (0, 1 << 62)}
+GENERATE_USAGE = "cloudabi-run --generate N [--workers N]"
+NUMBERS = {"workers": (1, 64), "turns": (1, 1_000_000_000), "epoch": (0, 1 << 62), "generate": (1, 128)}
 FILES = ("tree", "stdin")
 OPTIONS = ("tree", "stdin", "workers", "turns", "key", "epoch", "history")
 
 HELP = f"""usage: {USAGE}
+       {GENERATE_USAGE}
 
 Runs a program in the sandbox. Standard input has the launch file, which says what the program gets.
 
@@ -20,6 +22,8 @@ Runs a program in the sandbox. Standard input has the launch file, which says wh
   --key HEX      64 hexadecimal digits, the key of random bytes
   --workers N    threads of the sandbox: 1 to 64, 4 without it; the report is the same
 
+  --generate N   as the first word: generates a program of N child processes, 1 to 128, with its inputs, runs it, and prints a summary
+
   --build        alone: builds the sandbox, where that is needed, and runs nothing
   --unproved     as the first word: runs the sources as they are, with no proof
 
@@ -28,13 +32,33 @@ statuses, docs/PROGRAMS.md a first program."""
 
 
 class Words:
-    """What the words say: the options' values by name, the program's name, and the first fault, or None."""
+    """What the words say: the options' values by name, the program's name, whether one is generated, and the first fault, or None."""
     def __init__(self, words):
         self.values, self.program, self.fault = {}, None, None
+        self.generates = words[:1] == ["--generate"]
         try:
-            self.read(list(words))
+            (self.read_numbers if self.generates else self.read)(list(words))
         except ValueError as fault:
             self.fault = str(fault)
+
+    @property
+    def usage(self):
+        return GENERATE_USAGE if self.generates else USAGE
+
+    def read_numbers(self, words):
+        """A number behind `--generate`, and perhaps one behind `--workers`."""
+        for name in ("generate", "workers"):
+            if not words:
+                break
+            word = text_of(words.pop(0))
+            if word != f"--{name}":
+                raise ValueError(f"`{shown(word)}`: behind `--generate N` stands nothing but `--workers N`")
+            if not words:
+                raise ValueError(value_missing(name, words))
+            self.values[name] = text_of(words.pop(0))
+            check_value(name, self.values[name])
+        if words:
+            raise ValueError(f"`{shown(text_of(words[0]))}`: behind `--generate N` stands nothing but `--workers N`")
 
     def read(self, words):
         while words:
@@ -85,6 +109,8 @@ def text_of(word):
 def unknown_option(word, name):
     if name in ("help", "version") or word in ("-h", "-V"):
         return f"`{shown(word)}`: `--help` stands alone, and there is no `--version`"
+    if name == "generate":
+        return "`--generate` is the first word, with its number in the next one"
     if word in ("--build", "--unproved"):
         return f"`{word}` stands alone" if word == "--build" else "`--unproved` is the first word"
     if not word.startswith("--"):

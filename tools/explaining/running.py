@@ -58,7 +58,7 @@ def will_be_read(words):
     from explaining.command_words import Words
     found = Words(words)
     names = [found.program, found.values.get("tree"), found.values.get("stdin")]
-    return found.fault is None and all(name is None or os.access(name, os.R_OK) and not os.path.isdir(name) for name in names)
+    return found.fault is None and not found.generates and all(name is None or os.access(name, os.R_OK) and not os.path.isdir(name) for name in names)
 
 
 def write_all(number, data):

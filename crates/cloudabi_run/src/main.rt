@@ -1,11 +1,12 @@
-//! `cloudabi-run PROGRAM`: runs a program on the launch text of standard input, and prints its report.
+//! `cloudabi-run PROGRAM`: runs a program on the launch text of standard input, and prints its report. `cloudabi-run --generate N` generates
+//! a program and its inputs, runs it, and prints a summary.
 #![tactic(auto)]
 
 mod file_source;
 mod out_sink;
 
 use file_source::FileSource;
-use launch_run::{LaunchRefusal, OpenGate, run_launch};
+use launch_run::{LaunchRefusal, OpenGate, asks_to_generate, run_generated, run_launch};
 use out_sink::OutSink;
 use std::process::ExitCode;
 use std::rt::Env;
@@ -27,8 +28,12 @@ fn main(rt: HostRuntime) -> ExitCode {
     let mut sink = OutSink::new(&rt);
     let status = match command_line(&rt) {
         Ok(words) => {
-            let mut source = FileSource::new(rt.alloc(), &rt);
-            run_launch(&rt, rt.alloc(), &words, &OpenGate, &mut source, &mut sink).status
+            if asks_to_generate(&words) {
+                run_generated(&rt, rt.alloc(), &words, &OpenGate, &mut sink).status
+            } else {
+                let mut source = FileSource::new(rt.alloc(), &rt);
+                run_launch(&rt, rt.alloc(), &words, &OpenGate, &mut source, &mut sink).status
+            }
         }
         Err(refusal) => {
             let _ = refusal.write_line(&mut sink);

@@ -1,5 +1,6 @@
 pub mod Command
 pub mod Found
+pub mod Generating
 pub mod Laws
 pub mod Pieces
 pub mod Reading

@@ -41,8 +41,8 @@ fn optional_file<'a>(value: Option<&'a str>) -> Option<Option<&'a str>>
     }
 }
 
-// A number from `least` to `most`, or `default` where none is given.
-fn number_or(default: u64, least: u64, most: u64, value: Option<&str>) -> Option<u64>
+/// A number from `least` to `most`, or `default` where none is given.
+pub(crate) fn number_or(default: u64, least: u64, most: u64, value: Option<&str>) -> Option<u64>
     requires { (least ≤ default) × (default ≤ most) }
     ensures value { result ≡ or_default default (number_of least most) (option_map (λ text. text.now) value.entry) }
     ensures within { IfSome result (λ n. (least ≤ n) × (n ≤ most)) }

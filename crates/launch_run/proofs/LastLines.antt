@@ -11,7 +11,8 @@ use Rattle.run_types.specs.declared.launch.Launch.{Launch}
 use Rattle.launch_reading.specs.Refusal.{memory_line}
 use Rattle.launch_run.specs.declared.top.RunEnd.{RunEnd}
 use Rattle.launch_run.specs.declared.top.RunEnd.TheVariants.{Reported, StallReported, Unwritten, NotBegun, Lacking}
-use Rattle.launch_run.specs.TopCall.{IsEndOf, IsReportedEnd, ReportsEnd, Wrote, record_report}
+use Rattle.kernel_cell.specs.declared.record.Record.{Record}
+use Rattle.launch_run.specs.TopCall.{IsEndOf, IsReportedEnd, ReportsEnd, Wrote}
 
 by_cases : (first before after : ℕ) → first ≤ before → before + 1 ≡ 2 ^ 64 → (before < after) ⊎ (after ≤ before) → before ≤ after → Rose first after
 by_cases first before after early last (inl more) late = inl (omega (arith, early, more))
@@ -21,16 +22,16 @@ pub rose_until : (first before after : ℕ) → first ≤ before → before ≤ 
 rose_until first before after early late (inl more) = inl (omega (arith, more, late))
 rose_until first before after early late (inr last) = by_cases first before after early last (cases_lt before after) late
 
-module _ (launch : Launch) (lines : Bool) (before between after : Option (List ℕ)) (faults mid end : ℕ) (early : faults ≤ mid) (late : mid ≤ end) where
+module _ (launch : Launch) (all : Bool) (text : Record → List ℕ) (before between after : Option (List ℕ)) (faults mid end : ℕ) (early : faults ≤ mid) (late : mid ≤ end) where
   wrote : between ≡ before → Wrote between after (Rose mid end) memory_line → Wrote before after (Rose faults end) memory_line
   wrote same (inl whole) = inl (whole ∙ ap (λ b. grown b memory_line) same)
   wrote same (inr (rose, part)) = inr (rose_since faults mid end early rose, subst (λ (b : Option (List ℕ)). GrewByPrefix b after memory_line) same part)
 
-  pub ends_reported : (e : RunEnd) → IsEndOf launch lines before between (Rose faults mid) e → ReportsEnd between after (Rose mid end) e
-      → IsReportedEnd launch lines before after (Rose faults end) e
+  pub ends_reported : (e : RunEnd) → IsEndOf launch all text before between (Rose faults mid) e → ReportsEnd between after (Rose mid end) e
+      → IsReportedEnd launch all text before after (Rose faults end) e
   ends_reported (Reported r status) is stays = (is.0, is.1, is.2, stays ∙ is.3)
   ends_reported (StallReported r) is stays = (is.0, is.1, stays ∙ is.2)
   ends_reported (Unwritten r) is stays =
-      (is.0, is.1, rose_until faults mid end early late is.2, subst (λ (a : Option (List ℕ)). GrewByPrefix before a (record_report lines r)) (sym stays) is.3)
+      (is.0, is.1, rose_until faults mid end early late is.2, subst (λ (a : Option (List ℕ)). GrewByPrefix before a (text r)) (sym stays) is.3)
   ends_reported NotBegun is line = wrote is line
   ends_reported (Lacking r) is line = (is.0, is.1, wrote is.2 line)

@@ -15,7 +15,6 @@ use Rattle.run_model.specs.Legal.{IsRunnable}
 use Rattle.run_model.specs.Own.{IsLiveIn}
 use Rattle.run_model.specs.World.{World, world}
 use Rattle.run_model.proofs.Histories.{world_none, first_state, first_thread}
-use Rattle.run_report.specs.Report.{report_of}
 use Rattle.kernel_cell.specs.Cell.{IsBookOf}
 use Rattle.kernel_cell.specs.declared.cell.Book.{Book}
 use Rattle.kernel_cell.specs.declared.record.Record.{Record}
@@ -23,7 +22,7 @@ use Rattle.launch_run.specs.declared.top.Ending.{Ending}
 use Rattle.launch_run.specs.declared.top.Ending.TheVariants as ending
 use Rattle.launch_run.specs.declared.top.RunEnd.{RunEnd}
 use Rattle.launch_run.specs.declared.top.RunEnd.TheVariants.{Unwritten, Lacking}
-use Rattle.launch_run.specs.TopCall.{IsOver, IsOverSo, IsRecordOf, IsEndOf, recorded, reported_end, record_report}
+use Rattle.launch_run.specs.TopCall.{IsOver, IsOverSo, IsRecordOf, IsEndOf, recorded, reported_end}
 
 -- a book of a launch is of its own
 pub of_itself : (launch : Launch) (lines : Bool) (book : Book) → IsBookOf launch lines book → IsBookOf book.launch lines book
@@ -39,12 +38,9 @@ first_live : (launch : Launch) → IsLiveIn (world launch []) 0
 first_live launch =
     ap (λ (w : World). get w.state.statuses 0) (world_none launch) ∙ ap (λ (S : State). get S.statuses 0) (first_state launch) ∙ get-insert-same empty 0 Live
 
-module _ (book : Book) (lines : Bool) (of : IsBookOf book.launch lines book) where
-  record_is : IsRecordOf book.launch lines (recorded book)
+module _ (book : Book) (all : Bool) (of : IsBookOf book.launch all book) where
+  record_is : IsRecordOf book.launch all (recorded book)
   record_is = record { launch_is = refl; legal = of.legal; kept_is = of.kept_is }
-
-  text_is : (text : List ℕ) → text ≡ report_of book.kernel book.history lines → text ≡ record_report lines (recorded book)
-  text_is text is = is ∙ ap (λ (S : State). report_of S book.history lines) of.state
 
   -- a run that has ended or stalled has an entry
   has_entry : (how : Ending) → IsOverSo how book → book.history ≢ []
@@ -59,34 +55,31 @@ module _ (book : Book) (lines : Bool) (of : IsBookOf book.launch lines book) whe
   over ending.Ended none = inl (subst NoneLive of.state none)
   over ending.Stalled stalled = inr stalled
 
-  reported_as : (how : Ending) → IsOverSo how book → (before after : Option (List ℕ)) (rose : Type 0)
-      → after ≡ grown before (record_report lines (recorded book)) → IsEndOf book.launch lines before after rose (reported_end how book)
-  reported_as ending.Ended none before after rose grew = (record_is, subst NoneLive of.state none, ap (λ (S : State). get S.statuses 0) of.state, grew)
-  reported_as ending.Stalled stalled before after rose grew = (record_is, stalled, grew)
+  module _ (text : Record → List ℕ) where
+    reported_as : (how : Ending) → IsOverSo how book → (before after : Option (List ℕ)) (rose : Type 0)
+        → after ≡ grown before (text (recorded book)) → IsEndOf book.launch all text before after rose (reported_end how book)
+    reported_as ending.Ended none before after rose grew = (record_is, subst NoneLive of.state none, ap (λ (S : State). get S.statuses 0) of.state, grew)
+    reported_as ending.Stalled stalled before after rose grew = (record_is, stalled, grew)
 
-  module _ (how : Ending) (is_over : IsOverSo how book) (before after : Option (List ℕ)) (rose : Type 0) where
-    report_written : (text : List ℕ) → text ≡ report_of book.kernel book.history lines → after ≡ grown before text
-        → after ≡ grown before (record_report lines (recorded book))
-    report_written text same grew = grew ∙ ap (grown before) (text_is text same)
+    module _ (how : Ending) (is_over : IsOverSo how book) (before after : Option (List ℕ)) (rose : Type 0) where
+      pub reported : (end : RunEnd) → end ≡ reported_end how book → (shown : List ℕ) → shown ≡ text (recorded book)
+          → after ≡ grown before shown → IsEndOf book.launch all text before after rose end
+      reported end is shown same grew =
+          subst (IsEndOf book.launch all text before after rose) (sym is) (reported_as how is_over before after rose (grew ∙ ap (grown before) same))
 
-    pub reported : (end : RunEnd) → end ≡ reported_end how book → (text : List ℕ) → text ≡ report_of book.kernel book.history lines
-        → after ≡ grown before text → IsEndOf book.launch lines before after rose end
-    reported end is text same grew =
-        subst (IsEndOf book.launch lines before after rose) (sym is) (reported_as how is_over before after rose (report_written text same grew))
+      pub unwritten : (rec : Record) → rec ≡ recorded book → (shown : List ℕ) → shown ≡ text (recorded book) → rose
+          → GrewByPrefix before after shown → IsEndOf book.launch all text before after rose (Unwritten rec)
+      unwritten rec is shown same failed grew =
+          subst (λ (r : Record). IsEndOf book.launch all text before after rose (Unwritten r)) (sym is)
+          (record_is, over how is_over, failed, subst (GrewByPrefix before after) same grew)
 
-    pub unwritten : (rec : Record) → rec ≡ recorded book → (text : List ℕ) → text ≡ report_of book.kernel book.history lines → rose
-        → GrewByPrefix before after text → IsEndOf book.launch lines before after rose (Unwritten rec)
-    unwritten rec is text same failed grew =
-        subst (λ (r : Record). IsEndOf book.launch lines before after rose (Unwritten r)) (sym is)
-        (record_is, over how is_over, failed, subst (GrewByPrefix before after) (text_is text same) grew)
-
-    pub unreported : (rec : Record) → rec ≡ recorded book → after ≡ before → IsEndOf book.launch lines before after rose (Lacking rec)
-    unreported rec is same =
-        subst (λ (r : Record). IsEndOf book.launch lines before after rose (Lacking r)) (sym is) (record_is, has_entry how is_over, same)
+      pub unreported : (rec : Record) → rec ≡ recorded book → after ≡ before → IsEndOf book.launch all text before after rose (Lacking rec)
+      unreported rec is same =
+          subst (λ (r : Record). IsEndOf book.launch all text before after rose (Lacking r)) (sym is) (record_is, has_entry how is_over, same)
 
 -- a run for which memory ran out after its first entry
-pub lacking : (launch : Launch) (lines : Bool) (book : Book) → IsBookOf launch lines book → book.history ≢ [] → (before after : Option (List ℕ)) (rose : Type 0)
-    (rec : Record) → rec ≡ recorded book → after ≡ before → IsEndOf launch lines before after rose (Lacking rec)
-lacking launch lines book of some before after rose rec is same =
-    subst (λ (r : Record). IsEndOf launch lines before after rose (Lacking r)) (sym is)
-    (subst (λ (l : Launch). IsRecordOf l lines (recorded book)) of.launch_is (record_is book lines (of_itself launch lines book of)), some, same)
+pub lacking : (launch : Launch) (all : Bool) (book : Book) → IsBookOf launch all book → book.history ≢ [] → (text : Record → List ℕ) (before after : Option (List ℕ))
+    (rose : Type 0) (rec : Record) → rec ≡ recorded book → after ≡ before → IsEndOf launch all text before after rose (Lacking rec)
+lacking launch all book of some text before after rose rec is same =
+    subst (λ (r : Record). IsEndOf launch all text before after rose (Lacking r)) (sym is)
+    (subst (λ (l : Launch). IsRecordOf l all (recorded book)) of.launch_is (record_is book all (of_itself launch all book of)), some, same)

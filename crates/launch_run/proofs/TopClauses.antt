@@ -19,7 +19,7 @@ use Rattle.launch_run.specs.declared.top.RunEnd.{RunEnd}
 use Rattle.launch_run.specs.declared.top.RunEnd.TheVariants.{Reported, StallReported, Unwritten, NotBegun, Lacking}
 use Rattle.launch_run.specs.declared.top.TopEnd.{TopEnd}
 use Rattle.launch_run.specs.declared.top.TopEnd.TheVariants.{Refused, Ran}
-use Rattle.launch_run.specs.TopCall.{Wrote, IsRecordOf, IsRunOf, IsTopEnd, IsReportedEnd, IsInputRefused, IsKept, Completes, HasFailed, HasReported, HasStalled, status_number, finished_run, finished_of, IsProgramRefused, IsTreeRefused, IsTextRefused}
+use Rattle.launch_run.specs.TopCall.{Wrote, IsRecordOf, IsRunOf, IsTopEnd, IsReportedEnd, IsInputRefused, IsKept, Completes, HasEndedWith, HasFailedWith, HasStalledWith, status_number, finished_run, finished_of, IsProgramRefused, IsTreeRefused, IsTextRefused}
 
 -- a record of a run is as every record that is kept
 is_kept : (given : Option Settings) (described : Described) (launch : Launch) (r : Record) → IsRecordOf launch (history_with given) r
@@ -51,7 +51,7 @@ zero_or_one : (none : Bool) → ◌≡◌ {A = ℕ} (if none then 0 else 1) 0 �
 zero_or_one true = inl refl
 zero_or_one false = inr refl
 
-status_is_small : (status : Option Status) → (status_number status ≡ 0) ⊎ (status_number status ≡ 1)
+pub status_is_small : (status : Option Status) → (status_number status ≡ 0) ⊎ (status_number status ≡ 1)
 status_is_small None = inr refl
 status_is_small (Some Live) = inr refl
 status_is_small (Some (Exit code)) = zero_or_one (code == 0)
@@ -61,11 +61,11 @@ not_01 : (n : ℕ) → 1 < n → (n ≡ 0) ⊎ (n ≡ 1) → ⊥
 not_01 n more (inl is) = omega arith
 not_01 n more (inr is) = omega arith
 
-no_ended : (n : ℕ) → 1 < n → (status : Option Status) → status_number status ≡ n → ⊥
+pub no_ended : (n : ℕ) → 1 < n → (status : Option Status) → status_number status ≡ n → ⊥
 no_ended n more status is = not_01 n more (subst (λ (m : ℕ). (m ≡ 0) ⊎ (m ≡ 1)) is (status_is_small status))
 
-module _ (given : Option Settings) (content : List ℕ → InputContent) (rose : Type 0) (before after : Option (List ℕ)) (sink_rose : Type 0) where
-  run_kept : (end : RunEnd) → IsRunOf given content rose before after sink_rose end →
+module _ (given : Option Settings) (content : List ℕ → InputContent) (rose : Type 0) (text : Record → List ℕ) (before after : Option (List ℕ)) (sink_rose : Type 0) where
+  run_kept : (end : RunEnd) → IsRunOf given content rose text before after sink_rose end →
       IfSome (finished_run end).kept (IsKept given (words_describe given content))
   run_kept (Reported r status) o = is_kept given _ o.launch r o.end_reported.0 o.described o.built o.begins
   run_kept (StallReported r) o = is_kept given _ o.launch r o.end_reported.0 o.described o.built o.begins
@@ -73,12 +73,12 @@ module _ (given : Option Settings) (content : List ℕ → InputContent) (rose :
   run_kept NotBegun o = tt
   run_kept (Lacking r) o = is_kept given _ o.launch r o.end_reported.0 o.described o.built o.begins
 
-  pub top_kept : (end : TopEnd) → IsTopEnd given content rose before after sink_rose end →
+  pub top_kept : (end : TopEnd) → IsTopEnd given content rose text before after sink_rose end →
       IfSome (finished_of end).kept (IsKept given (words_describe given content))
   top_kept (Refused refusal) o = tt
   top_kept (Ran end) o = run_kept end o
 
-  pub top_input : (end : TopEnd) → IsTopEnd given content rose before after sink_rose end → (finished_of end).status ≡ 66 →
+  pub top_input : (end : TopEnd) → IsTopEnd given content rose text before after sink_rose end → (finished_of end).status ≡ 66 →
       IsInputRefused (inputs_with given) (words_describe given content) rose (Wrote before after sink_rose)
   top_input (Refused Words) o is = absurd (omega arith)
   top_input (Refused (Input name)) o is = (name.now, o.0.input.0, inl (o.0.input.1, o.1))
@@ -93,7 +93,7 @@ module _ (given : Option Settings) (content : List ℕ → InputContent) (rose :
   top_input (Ran NotBegun) o is = absurd (omega arith)
   top_input (Ran (Lacking r)) o is = absurd (omega arith)
 
-  pub top_program : (end : TopEnd) → IsTopEnd given content rose before after sink_rose end → (finished_of end).status ≡ 67 →
+  pub top_program : (end : TopEnd) → IsTopEnd given content rose text before after sink_rose end → (finished_of end).status ≡ 67 →
       IsProgramRefused (words_describe given content) (Wrote before after sink_rose)
   top_program (Refused Words) o is = absurd (omega arith)
   top_program (Refused (Input name)) o is = absurd (omega arith)
@@ -108,7 +108,7 @@ module _ (given : Option Settings) (content : List ℕ → InputContent) (rose :
   top_program (Ran NotBegun) o is = absurd (omega arith)
   top_program (Ran (Lacking r)) o is = absurd (omega arith)
 
-  pub top_text : (end : TopEnd) → IsTopEnd given content rose before after sink_rose end → (finished_of end).status ≡ 65 →
+  pub top_text : (end : TopEnd) → IsTopEnd given content rose text before after sink_rose end → (finished_of end).status ≡ 65 →
       IsTextRefused (words_describe given content) (Wrote before after sink_rose)
   top_text (Refused Words) o is = absurd (omega arith)
   top_text (Refused (Input name)) o is = absurd (omega arith)
@@ -123,7 +123,7 @@ module _ (given : Option Settings) (content : List ℕ → InputContent) (rose :
   top_text (Ran NotBegun) o is = absurd (omega arith)
   top_text (Ran (Lacking r)) o is = absurd (omega arith)
 
-  pub top_tree : (end : TopEnd) → IsTopEnd given content rose before after sink_rose end → (finished_of end).status ≡ 68 →
+  pub top_tree : (end : TopEnd) → IsTopEnd given content rose text before after sink_rose end → (finished_of end).status ≡ 68 →
       IsTreeRefused (words_describe given content) (Wrote before after sink_rose)
   top_tree (Refused Words) o is = absurd (omega arith)
   top_tree (Refused (Input name)) o is = absurd (omega arith)
@@ -145,7 +145,7 @@ module _ (given : Option Settings) (content : List ℕ → InputContent) (rose :
     pub none_given : given ≡ None
     pub wrote : Wrote before after sink_rose words_line
 
-  pub top_words : (end : TopEnd) → IsTopEnd given content rose before after sink_rose end → (finished_of end).status ≡ 2 → HasRefusedWords
+  pub top_words : (end : TopEnd) → IsTopEnd given content rose text before after sink_rose end → (finished_of end).status ≡ 2 → HasRefusedWords
   top_words (Refused Words) o is = record { none_given = o.0.words_refused refl; wrote = o.1 }
   top_words (Refused (Input name)) o is = absurd (omega arith)
   top_words (Refused (TooLong name)) o is = absurd (omega arith)
@@ -163,17 +163,17 @@ module _ (given : Option Settings) (content : List ℕ → InputContent) (rose :
   words_status refusal (inl is) = inl (ap status_of is)
   words_status refusal (inr is) = inr (ap status_of is)
 
-  no_run : (end : RunEnd) → given ≡ None → IsRunOf given content rose before after sink_rose end → ⊥
+  no_run : (end : RunEnd) → given ≡ None → IsRunOf given content rose text before after sink_rose end → ⊥
   no_run end none o = subst (λ g. IsBuiltBy g o.launch) none o.built
 
-  pub top_words_refused : (end : TopEnd) → IsTopEnd given content rose before after sink_rose end → given ≡ None →
+  pub top_words_refused : (end : TopEnd) → IsTopEnd given content rose text before after sink_rose end → given ≡ None →
       ((finished_of end).status ≡ 2) ⊎ ((finished_of end).status ≡ 70)
   top_words_refused (Refused refusal) o none = words_status refusal (o.0.words_answered none)
   top_words_refused (Ran end) o none = absurd (no_run end none o)
 
   -- ---- lack of memory
 
-  pub top_memory : (end : TopEnd) → IsTopEnd given content rose before after sink_rose end → (finished_of end).status ≡ 70 →
+  pub top_memory : (end : TopEnd) → IsTopEnd given content rose text before after sink_rose end → (finished_of end).status ≡ 70 →
       Wrote before after sink_rose memory_line × IfSome (finished_of end).kept (λ r. r.history ≢ [])
   top_memory (Refused Words) o is = absurd (omega arith)
   top_memory (Refused (Input name)) o is = absurd (omega arith)
@@ -190,8 +190,8 @@ module _ (given : Option Settings) (content : List ℕ → InputContent) (rose :
 
   -- ---- a report
 
-  pub top_ended : (end : TopEnd) → IsTopEnd given content rose before after sink_rose end → ((finished_of end).status ≡ 0) ⊎ ((finished_of end).status ≡ 1) →
-      IsSomeAnd (finished_of end).kept (HasReported (history_with given) before after (finished_of end).status)
+  pub top_ended : (end : TopEnd) → IsTopEnd given content rose text before after sink_rose end → ((finished_of end).status ≡ 0) ⊎ ((finished_of end).status ≡ 1) →
+      IsSomeAnd (finished_of end).kept (HasEndedWith text before after (finished_of end).status)
   top_ended (Refused Words) o is = absurd (not_01 2 (omega arith) is)
   top_ended (Refused (Input name)) o is = absurd (not_01 66 (omega arith) is)
   top_ended (Refused (TooLong name)) o is = absurd (not_01 66 (omega arith) is)
@@ -206,8 +206,8 @@ module _ (given : Option Settings) (content : List ℕ → InputContent) (rose :
   top_ended (Ran NotBegun) o is = absurd (not_01 70 (omega arith) is)
   top_ended (Ran (Lacking r)) o is = absurd (not_01 70 (omega arith) is)
 
-  pub top_stalled : (end : TopEnd) → IsTopEnd given content rose before after sink_rose end → (finished_of end).status ≡ 71 →
-      IsSomeAnd (finished_of end).kept (HasStalled (history_with given) before after)
+  pub top_stalled : (end : TopEnd) → IsTopEnd given content rose text before after sink_rose end → (finished_of end).status ≡ 71 →
+      IsSomeAnd (finished_of end).kept (HasStalledWith text before after)
   top_stalled (Refused Words) o is = absurd (omega arith)
   top_stalled (Refused (Input name)) o is = absurd (omega arith)
   top_stalled (Refused (TooLong name)) o is = absurd (omega arith)
@@ -221,8 +221,8 @@ module _ (given : Option Settings) (content : List ℕ → InputContent) (rose :
   top_stalled (Ran NotBegun) o is = absurd (omega arith)
   top_stalled (Ran (Lacking r)) o is = absurd (omega arith)
 
-  pub top_unwritten : (end : TopEnd) → IsTopEnd given content rose before after sink_rose end → (finished_of end).status ≡ 69 →
-      sink_rose × IsSomeAnd (finished_of end).kept (HasFailed (history_with given) before after)
+  pub top_unwritten : (end : TopEnd) → IsTopEnd given content rose text before after sink_rose end → (finished_of end).status ≡ 69 →
+      sink_rose × IsSomeAnd (finished_of end).kept (HasFailedWith text before after)
   top_unwritten (Refused Words) o is = absurd (omega arith)
   top_unwritten (Refused (Input name)) o is = absurd (omega arith)
   top_unwritten (Refused (TooLong name)) o is = absurd (omega arith)
@@ -247,7 +247,7 @@ module _ (given : Option Settings) (content : List ℕ → InputContent) (rose :
   completes_refused (describes launch) refusal (inr memory) = λ calm. inr (inr (inl (memory_status refusal memory)))
 
   -- how a run may end where the sink's count did not rise
-  calm_end : (launch : Launch) (end : RunEnd) → IsReportedEnd launch (history_with given) before after sink_rose end → ¬ sink_rose
+  calm_end : (launch : Launch) (end : RunEnd) → IsReportedEnd launch (history_with given) text before after sink_rose end → ¬ sink_rose
       → ((finished_run end).status ≡ 0) ⊎ ((finished_run end).status ≡ 1) ⊎ ((finished_run end).status ≡ 70) ⊎ ((finished_run end).status ≡ 71)
   calm_end launch (Reported r status) o calm = elim (status_is_small status) [ inl h ↦ inl h | inr h ↦ inr (inl h) ]
   calm_end launch (StallReported r) o calm = inr (inr (inr refl))
@@ -255,12 +255,12 @@ module _ (given : Option Settings) (content : List ℕ → InputContent) (rose :
   calm_end launch NotBegun o calm = inr (inr (inl refl))
   calm_end launch (Lacking r) o calm = inr (inr (inl refl))
 
-  completes_run : (described : Described) (launch : Launch) (end : RunEnd) → AnswersDescribed described (Ok launch) → IsReportedEnd launch (history_with given) before after sink_rose end
+  completes_run : (described : Described) (launch : Launch) (end : RunEnd) → AnswersDescribed described (Ok launch) → IsReportedEnd launch (history_with given) text before after sink_rose end
       → Completes described sink_rose (finished_run end).status
   completes_run unknown launch end h o = tt
   completes_run (refuses status line) launch end h o = absurd h
   completes_run (describes other) launch end h o = λ calm. calm_end launch end o calm
 
-  pub top_complete : (end : TopEnd) → IsTopEnd given content rose before after sink_rose end → ¬ rose → Completes (words_describe given content) sink_rose (finished_of end).status
+  pub top_complete : (end : TopEnd) → IsTopEnd given content rose text before after sink_rose end → ¬ rose → Completes (words_describe given content) sink_rose (finished_of end).status
   top_complete (Refused refusal) o calm = completes_refused (words_describe given content) refusal (o.0.complete calm)
   top_complete (Ran end) o calm = completes_run (words_describe given content) o.launch end (o.complete calm) o.end_reported

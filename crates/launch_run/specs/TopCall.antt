@@ -1,7 +1,7 @@
 -- What the top call answers and writes. The words are those of its caller; what a source shows of its inputs and what a
 -- sink shows of its bytes are as the traits say (a source or a sink may show nothing). A count of faults rose in a call
 -- where it is greater afterwards, or stands at its last value.
-use Rattle.std.specs.Prelude.{◌≡◌, ◌≢◌, ◌⊎◌, ◌==◌, ◌≤◌, ◌+◌, ◌*◌, ⊤, ℕ, Bool, List, [], length, Option, None, Some, Ok, Err, Contains, if◌then◌else◌}
+use Rattle.std.specs.Prelude.{◌≡◌, ◌≢◌, ◌⊎◌, ◌==◌, ◌≤◌, ◌+◌, ◌*◌, ⊤, ℕ, Bool, true, List, [], length, Option, None, Some, Ok, Err, Contains, if◌then◌else◌}
 use Rattle.std.specs.FinMap.{get}
 use Rattle.input_output.specs.Sink.{grown, GrewByPrefix}
 use Rattle.input_output.specs.Source.{InputContent}
@@ -20,14 +20,19 @@ use Rattle.run_model.specs.Ends.{Ended, Stalled}
 use Rattle.run_model.specs.Legal.{Legal}
 use Rattle.run_model.specs.World.{world}
 use Rattle.authority_laws.specs.Laws.{IsRecorded}
+use Rattle.confinement_laws.specs.Headline.{IsConfinedHistory}
+use Rattle.confinement_laws.specs.Untouched.{UnwrittenStays}
 use Rattle.command_line.specs.Settings.{Settings}
 use Rattle.launch_reading.specs.Launch.{Described, unknown, refuses, describes, words_describe, inputs_with, history_with, IsKnownAs, IsBuiltBy, IfInput, IfTooLong, IsOfTexts, AnswersDescribed}
 use Rattle.elf_image.specs.declared.fault.ElfFault.{ElfFault}
 use Rattle.launch_reading.specs.Refusal.{line_of, status_of, memory_line, input_line, program_line, tree_line, launch_line, too_long_line}
 use Rattle.run_report.specs.Report.{report_of}
+use Rattle.run_report.specs.Summary.{summary_of}
 use Rattle.launch_reading.specs.declared.launch_text.LaunchFault.{LaunchFault}
 use Rattle.launch_reading.specs.declared.refusal.LaunchRefusal.{LaunchRefusal}
 use Rattle.launch_reading.specs.declared.refusal.LaunchRefusal.TheVariants.{Words, Memory}
+use Rattle.launch_run.specs.declared.shown.Shown.{Shown}
+use Rattle.launch_run.specs.declared.shown.Shown.TheVariants.{Report, Summary}
 use Rattle.launch_run.specs.declared.top.Ending.{Ending}
 use Rattle.launch_run.specs.declared.top.Ending.TheVariants as ending
 use Rattle.launch_run.specs.declared.top.Finished.{Finished}
@@ -56,7 +61,7 @@ abbrev pub IsOverSo : Ending → Book → Type 0
 IsOverSo ending.Ended book = NoneLive book.kernel
 IsOverSo ending.Stalled book = Stalled book.launch book.history
 
--- the end of a run that is over so, and whose report was written
+-- the end of a run that is over so, and of which a text was written
 abbrev pub reported_end : Ending → Book → RunEnd
 reported_end ending.Ended book = Reported (recorded book) (get book.kernel.statuses 0)
 reported_end ending.Stalled book = StallReported (recorded book)
@@ -73,6 +78,20 @@ state_of r = (world r.launch r.history).state
 abbrev pub record_report : Bool → Record → List ℕ
 record_report lines r = report_of (state_of r) r.history lines
 
+-- the summary of the record of a run with so many child processes
+abbrev pub record_summary : ℕ → Record → List ℕ
+record_summary processes r = summary_of processes (state_of r) r.history
+
+-- whether the history's entries are kept for what is written of a run
+abbrev pub keeps_entries : Shown → Bool
+keeps_entries (Report lines) = lines
+keeps_entries (Summary processes) = true
+
+-- what is written of the record of a run that is over
+abbrev pub shown_text : Shown → Record → List ℕ
+shown_text (Report lines) r = record_report lines r
+shown_text (Summary processes) r = record_summary processes r
+
 -- A record of a run of the launch: its history is legal, and in memory are its denied calls, and its entries or none of them.
 pub record IsRecordOf (launch : Launch) (all : Bool) (r : Record) : Type 0 where
   pub launch_is : r.launch ≡ launch
@@ -80,24 +99,24 @@ pub record IsRecordOf (launch : Launch) (all : Bool) (r : Record) : Type 0 where
   pub kept_is : IsKeptOf all r.history r.kept
 
 -- How a run of the launch came to its end, where before and after are what the sink shows of its bytes, and rose says
--- that its count of faults rose. The report is of a run that is over, and was written whole, or a prefix of it where the sink
--- failed; where memory ran out, nothing was written of it, and a run that began has an entry.
-abbrev pub IsEndOf : Launch → Bool → Option (List ℕ) → Option (List ℕ) → Type 0 → RunEnd → Type 0
-IsEndOf launch lines before after rose (Reported r status) =
-    IsRecordOf launch lines r × Ended r.launch r.history × (status ≡ get (state_of r).statuses 0) × (after ≡ grown before (record_report lines r))
-IsEndOf launch lines before after rose (StallReported r) =
-    IsRecordOf launch lines r × Stalled r.launch r.history × (after ≡ grown before (record_report lines r))
-IsEndOf launch lines before after rose (Unwritten r) = IsRecordOf launch lines r × IsOver r.launch r.history × rose × GrewByPrefix before after (record_report lines r)
-IsEndOf launch lines before after rose NotBegun = after ≡ before
-IsEndOf launch lines before after rose (Lacking r) = IsRecordOf launch lines r × (r.history ≢ []) × (after ≡ before)
+-- that its count of faults rose. The text, such as the report, is of the record of a run that is over, and was written whole, or a prefix
+-- of it where the sink failed; where memory ran out, nothing was written of it, and a run that began has an entry.
+abbrev pub IsEndOf : Launch → Bool → (Record → List ℕ) → Option (List ℕ) → Option (List ℕ) → Type 0 → RunEnd → Type 0
+IsEndOf launch all text before after rose (Reported r status) =
+    IsRecordOf launch all r × Ended r.launch r.history × (status ≡ get (state_of r).statuses 0) × (after ≡ grown before (text r))
+IsEndOf launch all text before after rose (StallReported r) =
+    IsRecordOf launch all r × Stalled r.launch r.history × (after ≡ grown before (text r))
+IsEndOf launch all text before after rose (Unwritten r) = IsRecordOf launch all r × IsOver r.launch r.history × rose × GrewByPrefix before after (text r)
+IsEndOf launch all text before after rose NotBegun = after ≡ before
+IsEndOf launch all text before after rose (Lacking r) = IsRecordOf launch all r × (r.history ≢ []) × (after ≡ before)
 
 -- the same once the line that says so was written where memory ran out
-abbrev pub IsReportedEnd : Launch → Bool → Option (List ℕ) → Option (List ℕ) → Type 0 → RunEnd → Type 0
-IsReportedEnd launch lines before after rose (Reported r status) = IsEndOf launch lines before after rose (Reported r status)
-IsReportedEnd launch lines before after rose (StallReported r) = IsEndOf launch lines before after rose (StallReported r)
-IsReportedEnd launch lines before after rose (Unwritten r) = IsEndOf launch lines before after rose (Unwritten r)
-IsReportedEnd launch lines before after rose NotBegun = Wrote before after rose memory_line
-IsReportedEnd launch lines before after rose (Lacking r) = IsRecordOf launch lines r × (r.history ≢ []) × Wrote before after rose memory_line
+abbrev pub IsReportedEnd : Launch → Bool → (Record → List ℕ) → Option (List ℕ) → Option (List ℕ) → Type 0 → RunEnd → Type 0
+IsReportedEnd launch all text before after rose (Reported r status) = IsEndOf launch all text before after rose (Reported r status)
+IsReportedEnd launch all text before after rose (StallReported r) = IsEndOf launch all text before after rose (StallReported r)
+IsReportedEnd launch all text before after rose (Unwritten r) = IsEndOf launch all text before after rose (Unwritten r)
+IsReportedEnd launch all text before after rose NotBegun = Wrote before after rose memory_line
+IsReportedEnd launch all text before after rose (Lacking r) = IsRecordOf launch all r × (r.history ≢ []) × Wrote before after rose memory_line
 
 -- what is written after a run's end: the line that says that memory ran out, and else nothing
 abbrev pub ReportsEnd : Option (List ℕ) → Option (List ℕ) → Type 0 → RunEnd → Type 0
@@ -119,19 +138,19 @@ pub record IsRefusalOf (given : Option Settings) (content : List ℕ → InputCo
   pub refused : IsOfTexts refusal → IsKnownAs (words_describe given content) (refuses (status_of refusal) (line_of refusal))
   pub complete : ¬ rose → AnswersDescribed (words_describe given content) (Err refusal)
 
--- a run of the launch that the words and the inputs describe, where anything is known of it
-pub record IsRunOf (given : Option Settings) (content : List ℕ → InputContent) (rose : Type 0) (before after : Option (List ℕ)) (sink_rose : Type 0) (end : RunEnd) : Type 0 where
+-- a run of the launch that the words and the inputs describe, where anything is known of it, and of whose record this text was written
+pub record IsRunOf (given : Option Settings) (content : List ℕ → InputContent) (rose : Type 0) (text : Record → List ℕ) (before after : Option (List ℕ)) (sink_rose : Type 0) (end : RunEnd) : Type 0 where
   pub launch : Launch
   pub described : IsKnownAs (words_describe given content) (describes launch)
   pub built : IsBuiltBy given launch
   pub begins : MayBegin launch.tree launch.grants
   pub complete : ¬ rose → AnswersDescribed (words_describe given content) (Ok launch)
-  pub end_reported : IsReportedEnd launch (history_with given) before after sink_rose end
+  pub end_reported : IsReportedEnd launch (history_with given) text before after sink_rose end
 
 -- how the call ended
-abbrev pub IsTopEnd : Option Settings → (List ℕ → InputContent) → Type 0 → Option (List ℕ) → Option (List ℕ) → Type 0 → TopEnd → Type 0
-IsTopEnd given content rose before after sink_rose (Refused refusal) = IsRefusalOf given content rose refusal × Wrote before after sink_rose (line_of refusal)
-IsTopEnd given content rose before after sink_rose (Ran end) = IsRunOf given content rose before after sink_rose end
+abbrev pub IsTopEnd : Option Settings → (List ℕ → InputContent) → Type 0 → (Record → List ℕ) → Option (List ℕ) → Option (List ℕ) → Type 0 → TopEnd → Type 0
+IsTopEnd given content rose text before after sink_rose (Refused refusal) = IsRefusalOf given content rose refusal × Wrote before after sink_rose (line_of refusal)
+IsTopEnd given content rose text before after sink_rose (Ran end) = IsRunOf given content rose text before after sink_rose end
 
 -- what the call answers for each end
 abbrev pub finished_run : RunEnd → Finished
@@ -159,16 +178,33 @@ IsInputRefused names described rose wrote =
     (name : List ℕ) × Contains names name
     × ((rose × wrote (input_line name)) ⊎ (IsKnownAs described (refuses 66 (too_long_line name)) × wrote (too_long_line name)))
 
--- the run of the record has ended, the status is that of its process 0, and exactly its report was written
-pub record HasReported (lines : Bool) (before after : Option (List ℕ)) (status : ℕ) (r : Record) : Type 0 where
+-- the run of the record has ended, the status is that of its process 0, and exactly this text of it was written
+pub record HasEndedWith (text : Record → List ℕ) (before after : Option (List ℕ)) (status : ℕ) (r : Record) : Type 0 where
   pub ended : Ended r.launch r.history
   pub status_is : status ≡ status_number (get (state_of r).statuses 0)
-  pub written : after ≡ grown before (record_report lines r)
+  pub written : after ≡ grown before (text r)
+
+-- the run of the record is stalled, and exactly this text of it was written
+pub record HasStalledWith (text : Record → List ℕ) (before after : Option (List ℕ)) (r : Record) : Type 0 where
+  pub stalled : Stalled r.launch r.history
+  pub written : after ≡ grown before (text r)
+
+-- the run of the record is over, and a prefix of this text of it was written
+pub record HasFailedWith (text : Record → List ℕ) (before after : Option (List ℕ)) (r : Record) : Type 0 where
+  pub over : IsOver r.launch r.history
+  pub prefix : GrewByPrefix before after (text r)
+
+-- the run of the record has ended, the status is that of its process 0, and exactly its report was written
+abbrev pub HasReported : Bool → Option (List ℕ) → Option (List ℕ) → ℕ → Record → Type 0
+HasReported lines before after status r = HasEndedWith (record_report lines) before after status r
 
 -- the run of the record is stalled, and exactly its report was written
-pub record HasStalled (lines : Bool) (before after : Option (List ℕ)) (r : Record) : Type 0 where
-  pub stalled : Stalled r.launch r.history
-  pub written : after ≡ grown before (record_report lines r)
+abbrev pub HasStalled : Bool → Option (List ℕ) → Option (List ℕ) → Record → Type 0
+HasStalled lines before after r = HasStalledWith (record_report lines) before after r
+
+-- the run of the record is over, and a prefix of its report was written
+abbrev pub HasFailed : Bool → Option (List ℕ) → Option (List ℕ) → Record → Type 0
+HasFailed lines before after r = HasFailedWith (record_report lines) before after r
 
 -- the program is refused for a fault of its file, which is the first refusal that is described, where anything is known of it,
 -- and its line was written
@@ -187,11 +223,6 @@ abbrev pub IsTextRefused : Described → (List ℕ → Type 0) → Type 0
 IsTextRefused described wrote =
     (fault : LaunchFault) × IsKnownAs described (refuses 65 (launch_line fault)) × wrote (launch_line fault)
 
--- the run of the record is over, and a prefix of its report was written
-pub record HasFailed (lines : Bool) (before after : Option (List ℕ)) (r : Record) : Type 0 where
-  pub over : IsOver r.launch r.history
-  pub prefix : GrewByPrefix before after (record_report lines r)
-
 -- What every record that is kept is: its history is legal, each entry is confined to what its process's descriptors
 -- reach with the rights needed, who holds which descriptors is shown by the entries, each descriptor is traced, of a file, a
 -- directory or a standard stream to one of the launch's grants, and at each entry copies are equal, rights are lowered to those
@@ -205,6 +236,16 @@ pub record IsKept (given : Option Settings) (described : Described) (r : Record)
   pub launch_described : IsKnownAs described (describes r.launch)
   pub built : IsBuiltBy given r.launch
   pub kept_is : IsKeptOf (history_with given) r.history r.kept
+
+-- The record's history is as the headline has it: one history of its launch, by which no entry reads or changes anything but its process's own and
+-- what that process's descriptors reach with the rights needed, traced through recorded grants, along which rights never grow; and every
+-- rights refusal names exactly those missing.
+abbrev pub IsConfinedRecord : Record → Type 0
+IsConfinedRecord r = IsConfinedHistory r.launch r.history
+
+-- what no grant lets the run of the record change is as its launch had it
+abbrev pub LeavesUnwritten : Record → Type 0
+LeavesUnwritten r = UnwrittenStays r.launch r.history
 
 -- Where the source's count of faults did not rise, a refusal that is described is answered, and a launch that is described is
 -- run to its report where the sink's count did not rise; or memory ran out.

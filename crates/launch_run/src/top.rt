@@ -3,14 +3,14 @@ ghost use Rattle.std.specs.Prelude.{◌≡◌, ◌≢◌, ◌⊎◌, ◌≤◌, 
 ghost use Rattle.input_output.specs.Source.{Rose};
 ghost use Rattle.command_line.specs.Settings.{IsWithin, view};
 ghost use Rattle.command_line.specs.Reading.{words_of};
-ghost use Rattle.run_report.specs.Report.{report_of};
 ghost use Rattle.launch_reading.specs.Launch.{launch_of, inputs_of, settings_inputs, asks_history};
 ghost use Rattle.launch_reading.specs.Refusal.{line_of, words_line, memory_line};
 ghost use Rattle.call_codec.specs.Bounded.{IsBounded};
 ghost use Rattle.kernel_cell.specs.Cell.{IsBookOf};
-ghost use Rattle.launch_run.specs.TopCall.{Wrote, IsOverSo, IsEndOf, IsReportedEnd, ReportsEnd, IsTopEnd, IsTopStatus, IsInputRefused, IsProgramRefused, IsTreeRefused, IsTextRefused, HasReported, HasStalled, HasFailed, IsKept, Completes, status_number, recorded, reported_end, finished_run, finished_of};
+ghost use Rattle.launch_run.specs.TopCall.{Wrote, IsOverSo, IsEndOf, IsReportedEnd, ReportsEnd, IsTopEnd, IsTopStatus, keeps_entries, record_report, shown_text, IsInputRefused, IsProgramRefused, IsTreeRefused, IsTextRefused, HasReported, HasStalled, HasFailed, IsKept, IsConfinedRecord, LeavesUnwritten, Completes, status_number, recorded, reported_end, finished_run, finished_of};
 ghost use Rattle.launch_run.specs.declared.top.TopEnd.TheVariants.{Refused};
 
+use crate::shown::Shown;
 use abi_types::Status;
 use command_line::{CommandLineFault, LaunchSettings, read_words};
 use drive_run::{Driven, drive};
@@ -19,7 +19,6 @@ use input_output::{Sink, Source, write_whole};
 use kernel_cell::{Book, Record};
 use launch_reading::{LaunchRefusal, read_launch};
 use process_cell::Gate;
-use run_report::report;
 use run_types::Launch;
 use std::alloc::Global;
 use std::sync::Wait;
@@ -35,11 +34,11 @@ pub struct Finished {
 /// How the run of a launch ended.
 #[derive(Drop)]
 pub enum RunEnd {
-    /// It ended and its report was written; process 0 stands so.
+    /// It ended and what is shown of it was written; process 0 stands so.
     Reported(Record, Option<Status>),
-    /// It stalled and its report was written.
+    /// It stalled and what is shown of it was written.
     StallReported(Record),
-    /// It ended or stalled, and the sink failed while its report was written.
+    /// It ended or stalled, and the sink failed while what is shown of it was written.
     Unwritten(Record),
     /// Memory ran out before the run began.
     NotBegun,
@@ -83,7 +82,7 @@ fn record_of(book: Book) -> Record
     }
 }
 
-// The end of a run whose report was written.
+// The end of a run of which what is shown was written.
 fn reported_end(book: Book, ending: Ending) -> RunEnd
     ensures { result ≡ reported_end ending book }
 {
@@ -96,26 +95,20 @@ fn reported_end(book: Book, ending: Ending) -> RunEnd
     }
 }
 
-// Writes the report of a run that is over.
+// Writes what is shown of a run that is over.
 fn report_run<K: Sink>(
     alloc: Global,
     book: Book,
     ending: Ending,
-    lines: bool,
+    shown: Shown,
     sink: &mut K,
 ) -> RunEnd
-    requires of { IsBookOf book.launch lines book }
+    requires of { IsBookOf book.launch (keeps_entries shown) book }
     requires over { IsOverSo ending book }
     ensures faults_never_fall { K.faults sink.old ≤ K.faults sink.new }
-    ensures end { IsEndOf book.launch lines (K.written sink.old) (K.written sink.new) (Rose (K.faults sink.old) (K.faults sink.new)) result }
+    ensures end { IsEndOf book.launch (keeps_entries shown) (shown_text shown) (K.written sink.old) (K.written sink.new) (Rose (K.faults sink.old) (K.faults sink.new)) result }
 {
-    let Ok(text) = report(
-        alloc,
-        &book.kernel,
-        &book.kept.denied,
-        &book.kept.entries,
-        lines,
-    ) else {
+    let Ok(text) = shown.text(alloc, &book) else {
         return RunEnd::Lacking(record_of(book));
     };
     match write_whole(sink, text.as_slice()) {
@@ -124,23 +117,23 @@ fn report_run<K: Sink>(
     }
 }
 
-// Runs a launch to its end with this many workers, and writes its report.
+// Runs a launch to its end with this many workers, and writes what is shown of it.
 fn run_launched<K: Sink, G: Gate + Sync, R: Threads + Wait + Sync>(
     rt: &R,
     alloc: Global,
     launch: Launch,
     workers: u32,
     gate: &G,
-    lines: bool,
+    shown: Shown,
     sink: &mut K,
 ) -> RunEnd
     requires { IsBounded launch }
     ensures faults_never_fall { K.faults sink.old ≤ K.faults sink.new }
-    ensures end { IsEndOf launch lines (K.written sink.old) (K.written sink.new) (Rose (K.faults sink.old) (K.faults sink.new)) result }
+    ensures end { IsEndOf launch (keeps_entries shown) (shown_text shown) (K.written sink.old) (K.written sink.new) (Rose (K.faults sink.old) (K.faults sink.new)) result }
 {
-    match drive(rt, alloc, launch, workers, gate, lines) {
-        Driven::Ended(book) => report_run(alloc, book, Ending::Ended, lines, sink),
-        Driven::Stalled(book) => report_run(alloc, book, Ending::Stalled, lines, sink),
+    match drive(rt, alloc, launch, workers, gate, shown.keeps_entries()) {
+        Driven::Ended(book) => report_run(alloc, book, Ending::Ended, shown, sink),
+        Driven::Stalled(book) => report_run(alloc, book, Ending::Stalled, shown, sink),
         Driven::Lacking(book) => RunEnd::Lacking(record_of(book)),
         Driven::NotBegun => RunEnd::NotBegun,
     }
@@ -165,21 +158,21 @@ fn refuse<K: Sink>(refusal: &LaunchRefusal<'_>, sink: &mut K)
     let _ = refusal.write_line(sink);
 }
 
-// Runs a launch to its end, and writes its report, or the line that says that memory ran out.
+// Runs a launch to its end, and writes what is shown of it, or the line that says that memory ran out.
 fn run_reported<K: Sink, G: Gate + Sync, R: Threads + Wait + Sync>(
     rt: &R,
     alloc: Global,
     launch: Launch,
     workers: u32,
     gate: &G,
-    lines: bool,
+    shown: Shown,
     sink: &mut K,
 ) -> RunEnd
     requires { IsBounded launch }
     ensures faults_never_fall { K.faults sink.old ≤ K.faults sink.new }
-    ensures end { IsReportedEnd launch lines (K.written sink.old) (K.written sink.new) (Rose (K.faults sink.old) (K.faults sink.new)) result }
+    ensures end { IsReportedEnd launch (keeps_entries shown) (shown_text shown) (K.written sink.old) (K.written sink.new) (Rose (K.faults sink.old) (K.faults sink.new)) result }
 {
-    let end = run_launched(rt, alloc, launch, workers, gate, lines, sink);
+    let end = run_launched(rt, alloc, launch, workers, gate, shown, sink);
     report_end(&end, sink);
     end
 }
@@ -193,8 +186,8 @@ pub enum TopEnd<'a> {
     Ran(RunEnd),
 }
 
-// A refusal, with its line written.
-fn refused<'a, K: Sink>(refusal: LaunchRefusal<'a>, sink: &mut K) -> TopEnd<'a>
+/// A refusal, with its line written.
+pub(crate) fn refused<'a, K: Sink>(refusal: LaunchRefusal<'a>, sink: &mut K) -> TopEnd<'a>
     ensures end { result ≡ Refused refusal.entry }
     ensures faults_never_fall { K.faults sink.old ≤ K.faults sink.new }
     ensures wrote { Wrote (K.written sink.old) (K.written sink.new) (Rose (K.faults sink.old) (K.faults sink.new)) (line_of refusal.entry) }
@@ -203,21 +196,23 @@ fn refused<'a, K: Sink>(refusal: LaunchRefusal<'a>, sink: &mut K) -> TopEnd<'a>
     TopEnd::Refused(refusal)
 }
 
-// Reads the launch of these settings, runs it, and writes its report, or the line of a refusal.
-fn run_settings<'a, S: Source, K: Sink, G: Gate + Sync, R: Threads + Wait + Sync>(
+/// Reads the launch of these settings, runs it, and writes what is shown of it, or the line of a refusal.
+pub(crate) fn run_settings<'a, S: Source, K: Sink, G: Gate + Sync, R: Threads + Wait + Sync>(
     rt: &R,
     alloc: Global,
     settings: &LaunchSettings<'a>,
+    shown: Shown,
     gate: &G,
     source: &mut S,
     sink: &mut K,
 ) -> TopEnd<'a>
     requires may_read { All (S.may_read source.old) (settings_inputs (view settings.now)) }
     requires within { IsWithin (view settings.now) }
+    requires kept { keeps_entries shown ≡ settings.now.history }
     ensures content_stays { (n : List ℕ) → S.content source.new n ≡ S.content source.old n }
     ensures source_faults { S.faults source.old ≤ S.faults source.new }
     ensures sink_faults { K.faults sink.old ≤ K.faults sink.new }
-    ensures end { IsTopEnd (Some (view settings.now)) (S.content source.old) (Rose (S.faults source.old) (S.faults source.new)) (K.written sink.old) (K.written sink.new) (Rose (K.faults sink.old) (K.faults sink.new)) result }
+    ensures end { IsTopEnd (Some (view settings.now)) (S.content source.old) (Rose (S.faults source.old) (S.faults source.new)) (shown_text shown) (K.written sink.old) (K.written sink.new) (Rose (K.faults sink.old) (K.faults sink.new)) result }
 {
     match read_launch(alloc, settings, source) {
         Ok(launch) => TopEnd::Ran(run_reported(
@@ -226,7 +221,7 @@ fn run_settings<'a, S: Source, K: Sink, G: Gate + Sync, R: Threads + Wait + Sync
             launch,
             settings.workers,
             gate,
-            settings.history,
+            shown,
             sink,
         )),
         Err(refusal) => refused(refusal, sink),
@@ -247,10 +242,15 @@ fn launch_and_run<'a, S: Source, K: Sink, G: Gate + Sync, R: Threads + Wait + Sy
     ensures source_faults { S.faults source.old ≤ S.faults source.new }
     ensures sink_faults { K.faults sink.old ≤ K.faults sink.new }
     ensures unread { words_of (map string_bytes words.now) ≡ None → source.new ≡ source.old }
-    ensures end { IsTopEnd (words_of (map string_bytes words.now)) (S.content source.old) (Rose (S.faults source.old) (S.faults source.new)) (K.written sink.old) (K.written sink.new) (Rose (K.faults sink.old) (K.faults sink.new)) result }
+    ensures end { IsTopEnd (words_of (map string_bytes words.now)) (S.content source.old) (Rose (S.faults source.old) (S.faults source.new))
+        (record_report (asks_history (map string_bytes words.now))) (K.written sink.old) (K.written sink.new) (Rose (K.faults sink.old) (K.faults sink.new)) result }
 {
     match read_words(alloc, words) {
-        Ok(settings) => run_settings(rt, alloc, &settings, gate, source, sink),
+        Ok(settings) => {
+            let lines = settings.history;
+            let shown = Shown::Report { lines };
+            run_settings(rt, alloc, &settings, shown, gate, source, sink)
+        }
         Err(CommandLineFault::Refused) => refused(LaunchRefusal::Words, sink),
         Err(CommandLineFault::NoMemory) => refused(LaunchRefusal::Memory, sink),
     }
@@ -284,8 +284,8 @@ fn finished_run(end: RunEnd) -> Finished
     }
 }
 
-// What the call answers.
-fn finish(end: TopEnd<'_>) -> Finished
+/// What the call answers.
+pub(crate) fn finish(end: TopEnd<'_>) -> Finished
     ensures { result ≡ finished_of end.entry }
 {
     match end {
@@ -341,7 +341,9 @@ pub fn run_launch<S: Source, K: Sink, G: Gate + Sync, R: Threads + Wait + Sync>(
     ensures stalled { result.status ≡ 71 → IsSomeAnd result.kept (HasStalled (asks_history (map string_bytes words.now)) (K.written sink.old) (K.written sink.new)) }
     ensures unwritten { result.status ≡ 69 → Rose (K.faults sink.old) (K.faults sink.new) × IsSomeAnd result.kept (HasFailed (asks_history (map string_bytes words.now)) (K.written sink.old) (K.written sink.new)) }
 
-    // What is kept.
+    // What is kept: the headline, and what follows from it.
+    ensures headline { IfSome result.kept IsConfinedRecord }
+    ensures unwritten_stays { IfSome result.kept LeavesUnwritten }
     ensures kept { IfSome result.kept (IsKept (words_of (map string_bytes words.now)) (launch_of (map string_bytes words.now) (S.content source.old))) }
     ensures none_kept { IsSome result.kept → (result.status ≡ 0) ⊎ (result.status ≡ 1) ⊎ (result.status ≡ 69) ⊎ (result.status ≡ 70) ⊎ (result.status ≡ 71) }
 

@@ -1,5 +1,7 @@
 mod ReportTexts
 mod ReportLines
 mod HistoryTexts
+mod NumberLines
 mod TreeTexts
 mod RunEnds
+mod Walks

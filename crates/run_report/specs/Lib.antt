@@ -1,5 +1,9 @@
 pub mod CallNames
+pub mod Counts
 pub mod Denials
 pub mod HistoryLines
 pub mod Report
 pub mod ReportLaws
+pub mod Summary
+pub mod TreeSizes
+pub mod Walks

@@ -93,8 +93,8 @@ fn append_tree(alloc: Global, text: &mut Bytes, tree: &Tree) -> Result<(), Alloc
     text.append(document.text.as_slice())
 }
 
-// How a process stands, in words.
-fn status_text(alloc: Global, status: Option<Status>) -> Result<String, AllocError>
+/// How a process stands, in words.
+pub(crate) fn status_text(alloc: Global, status: Option<Status>) -> Result<String, AllocError>
     ensures { IfOk result (λ text. string_bytes text ≡ status_text status) }
 {
     match status {

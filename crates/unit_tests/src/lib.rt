@@ -1,10 +1,13 @@
-//! Tests of what the built command can't show: sources and sinks that fail, memory, structures, and the corners of the machine, of file
-//! trees and of the kernel. Cases show the rest.
+//! Tests of what the built command can't show: lists and queues, memory, structures, calls that registers and memory encode, and the corners of the machine, of file
+//! trees and of the kernel. Cases show the rest, and `run_tests` what is of whole runs.
 #![tactic(auto)]
 
+pub use hello_file::HELLO_FILE;
+
+#[cfg(test)]
+mod blocks;
 #[cfg(test)]
 mod calls;
-#[cfg(test)]
 mod hello_file;
 #[cfg(test)]
 mod kernel;
@@ -13,8 +16,8 @@ mod launch_texts;
 #[cfg(test)]
 mod machine;
 #[cfg(test)]
-mod readers;
+mod queues;
 #[cfg(test)]
-mod runs;
+mod readers;
 #[cfg(test)]
 mod trees;

@@ -1,23 +1,20 @@
 use Rattle.std.proofs.Common.{◌≡◌, ◌∙◌, refl}
-use Rattle.run_report.specs.Report.{report_of}
-use Rattle.launch_run.proofs.KeptReports.{kept_are_of}
+use Rattle.launch_run.specs.TopCall.{keeps_entries, recorded, shown_text}
 use Rattle.launch_run.proofs.TopCalls.{reported, unreported, unwritten}
 use Rattle.launch_run.proofs.top.report_run.Goals as goal
 
 pub returns-in_default-clause-end : goal.returns-in_default-clause-end
 returns-in_default-clause-end g c =
-    unreported c.args.book c.args.lines c.requires.of c.args.ending c.requires.over _ _ (Unit {0}) _ c.record_of.ensures refl
+    unreported c.args.book (keeps_entries c.args.shown) c.requires.of (shown_text c.args.shown) c.args.ending c.requires.over _ _ (Unit {0}) _ c.record_of.ensures refl
 
 pub returns-in-Ok-write_whole-clause-end : goal.returns-in-Ok-write_whole-clause-end
 returns-in-Ok-write_whole-clause-end g c =
-    let text_is : c.as_slice.result.now ≡ report_of c.args.book.kernel c.args.book.history c.args.lines =
-    c.as_slice.ensures ∙ c.in-Ok.ensures c.args.book.history (kept_are_of c.args.book.history c.args.lines c.args.book.kept c.requires.of.kept_is) in
-    reported c.args.book c.args.lines c.requires.of c.args.ending c.requires.over _ _ _ c.reported_end.result c.reported_end.ensures
+    let text_is : c.as_slice.result.now ≡ shown_text c.args.shown (recorded c.args.book) = c.as_slice.ensures ∙ c.in-Ok.ensures in
+    reported c.args.book (keeps_entries c.args.shown) c.requires.of (shown_text c.args.shown) c.args.ending c.requires.over _ _ _ c.reported_end.result c.reported_end.ensures
     c.as_slice.result.now text_is c.in-Ok-write_whole.ensures.ok
 
 pub returns-clause-end : goal.returns-clause-end
 returns-clause-end g c =
-    let text_is : c.as_slice.result.now ≡ report_of c.args.book.kernel c.args.book.history c.args.lines =
-    c.as_slice.ensures ∙ c.in-Ok.ensures c.args.book.history (kept_are_of c.args.book.history c.args.lines c.args.book.kept c.requires.of.kept_is) in
-    unwritten c.args.book c.args.lines c.requires.of c.args.ending c.requires.over _ _ _ _ c.record_of-in-Err.ensures c.as_slice.result.now text_is
+    let text_is : c.as_slice.result.now ≡ shown_text c.args.shown (recorded c.args.book) = c.as_slice.ensures ∙ c.in-Ok.ensures in
+    unwritten c.args.book (keeps_entries c.args.shown) c.requires.of (shown_text c.args.shown) c.args.ending c.requires.over _ _ _ _ c.record_of-in-Err.ensures c.as_slice.result.now text_is
     c.in-Err.ensures.failed c.in-Err.ensures.failed_prefix

@@ -9,7 +9,7 @@ returns-in-Ok-clause-end g c = record {
   built = c.in-Ok.ensures.built;
   begins = c.in-Ok.ensures.begins;
   complete = c.in-Ok.ensures.complete;
-  end_reported = c.run_reported.ensures.end;
+  end_reported = rw c.requires.kept at c.run_reported.ensures.end;
 }
 
 pub returns-in-Err-clause-end : goal.returns-in-Err-clause-end

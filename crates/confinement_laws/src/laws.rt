@@ -1,0 +1,49 @@
+//! Laws of whole runs. The statements are in `specs/`, and each holds of every launch and history.
+ghost use Rattle.confinement_laws.specs.Alike.{LaunchesRunAlike};
+ghost use Rattle.confinement_laws.specs.Laws.{LegalIsConfinedHistory, MissingIsExact, SightIsDecided};
+ghost use Rattle.confinement_laws.specs.Needs.{AllNeedsAreListed};
+ghost use Rattle.confinement_laws.specs.Untouched.{LegalLeavesUnwritten, NamesAreTouched, TreeIsWrittenByRight};
+
+/// What a call sees is decided by what it sees: where each name that it sees is of a node that is there, as in every valid state, it
+/// sees the same parts in each state that has the same of all of them.
+pub fn sight_is_decided()
+    ensures { SightIsDecided }
+{}
+
+/// What is missing of a descriptor, whose rights are words of 64 bits, are exactly the rights that are needed and that it lacks, unless it has
+/// others that stand for them.
+pub fn missing_is_exact()
+    ensures { MissingIsExact }
+{}
+
+/// Which right is needed by which call, of which descriptor, is listed by the rights: a call needs it where it is listed so, and only there.
+pub fn needs_are_listed()
+    ensures { AllNeedsAreListed }
+{}
+
+/// Each legal history of a launch with proper grants is confined: no entry reads or changes anything but the clock, its process's own
+/// state, and what that process's descriptors reach with the rights needed; these are traced through recorded grants, along which
+/// rights never grow; and every refusal for missing rights names exactly those missing.
+pub fn legal_is_confined_history()
+    ensures { LegalIsConfinedHistory }
+{}
+
+/// What a call touches of the file tree it makes, or it is behind a descriptor of which the call needs a right by which trees are changed,
+/// or the call leaves the tree as it is.
+/// A name that is there after a call and wasn't before it is of a node that the call touches, or whose name it moves.
+pub fn tree_is_written_by_right()
+    ensures touched { TreeIsWrittenByRight }
+    ensures names { NamesAreTouched }
+{}
+
+/// A file or directory to which no grant leads that has a right by which trees are changed, or passes one on, is after each legal history as
+/// the launch had it: its bytes, its names, its times, its paths, and its records in the report's document of the file tree.
+pub fn legal_leaves_unwritten()
+    ensures { LegalLeavesUnwritten }
+{}
+
+/// Two launches that differ in nothing to which a grant leads have the same histories, with the same processes, outputs and ends; only of what no grant
+/// leads to their file trees differ.
+pub fn launches_run_alike()
+    ensures { LaunchesRunAlike }
+{}

@@ -1,0 +1,15 @@
+use Rattle.std.proofs.Common.{subst, sym}
+use Rattle.std.specs.Prelude.{Option}
+use Rattle.input_output.specs.Source.{Rose}
+use Rattle.command_line.specs.Settings.{Settings}
+use Rattle.launch_reading.specs.Launch.{history_with}
+use Rattle.launch_run.specs.TopCall.{IsTopEnd, record_report}
+use Rattle.launch_run.proofs.top.launch_and_run.Goals as goal
+
+pub returns-in-Ok-clause-end : goal.returns-in-Ok-clause-end
+returns-in-Ok-clause-end g c =
+    subst
+    (λ (given : Option Settings). IsTopEnd given (g.S.Source.content c.args.source.now) (Rose (g.S.Source.faults c.args.source.now) (g.S.Source.faults c.run_settings.new.source))
+    (record_report (history_with given)) (g.K.Sink.written c.args.sink.now) (g.K.Sink.written c.run_settings.new.sink)
+    (Rose (g.K.Sink.faults c.args.sink.now) (g.K.Sink.faults c.run_settings.new.sink)) c.run_settings.result)
+    (sym c.in-Ok.ensures.ok) c.run_settings.ensures.end
