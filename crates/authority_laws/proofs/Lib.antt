@@ -21,3 +21,4 @@ pub mod Deliveries
 pub mod Traces
 pub mod OpenTargets
 pub mod Records
+pub mod NotedSends
