@@ -20,5 +20,5 @@ pub mod SendNumbers
 pub mod Deliveries
 pub mod Traces
 pub mod OpenTargets
-pub mod Records
 pub mod NotedSends
+pub mod Records

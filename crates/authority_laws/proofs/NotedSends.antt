@@ -1,10 +1,9 @@
 -- What waits in channels carries what the ledger says that it carried when it was sent.
 --     send_as_much      a sock_send lets go of nothing
 --     sends_are_noted      the law
-use Rattle.std.proofs.Common.{◌≡◌, ◌≢◌, ◌⊎◌, inl, inr, ℕ, zero, suc, ◌+◌, ◌<◌, ◌≤◌, ◌==◌, ◌&&◌, Bool, true, false, cond, List, [], ◌∷◌, ◌++◌, length, take, Option, None, Some, refl, sym, ap, subst, ◌∙◌, append-nil, append_assoc, arith}
+use Rattle.std.proofs.Common.{◌≡◌, ◌≢◌, ◌⊎◌, inl, inr, ℕ, suc, ◌+◌, ◌<◌, ◌≤◌, ◌==◌, ◌&&◌, Bool, true, false, cond, List, [], ◌∷◌, ◌++◌, length, take, Option, None, Some, refl, sym, ap, subst, ◌∙◌, append-nil, append_assoc, arith}
 use Rattle.std.proofs.lemmas.Bool.{eq-eqb}
 use Rattle.std.proofs.lemmas.Bool.Decides.{eqb_tells}
-use Rattle.std.specs.Prelude.{slice_get}
 use Rattle.std.specs.Ordering.{nat_cmp}
 use Rattle.std.specs.FinMap.{get, get-empty, insert}
 use Rattle.abi_base.specs.declared.errno.Errno.{Errno}
@@ -33,8 +32,8 @@ use Rattle.kernel_model.specs.Families.OpenMeaning.{at_descriptor}
 use Rattle.kernel_model.specs.OpenLaws.{IsOfSame}
 use Rattle.kernel_model.specs.Outcome.{Outcome}
 use Rattle.kernel_model.specs.Proper.{GoesOn, adds, draws, empties}
-use Rattle.kernel_model.specs.Release.{carried_in, carriers, count_sent, holders}
-use Rattle.kernel_model.specs.State.{State, Table, put_all, put_one, set_chan}
+use Rattle.kernel_model.specs.Release.{carried_in, carriers, count_sent}
+use Rattle.kernel_model.specs.State.{State, put_all, put_one, set_chan}
 use Rattle.kernel_model.specs.Step.{tick, outcome, unreleased}
 use Rattle.kernel_model.specs.View.{whole}
 use Rattle.kernel_model.specs.Waits.{resumed, waiting}
@@ -43,14 +42,14 @@ use Rattle.kernel_model.proofs.HeldOpens.{HoldsAsMuch, spares_all}
 use Rattle.kernel_model.proofs.Outcomes.{outcome_holds}
 use Rattle.kernel_model.proofs.Parts.{number_apart}
 use Rattle.kernel_model.proofs.Sending.{send_holds}
-use Rattle.kernel_model.proofs.Tests.{none_is_no, same_some}
+use Rattle.kernel_model.proofs.Tests.{none_is_no}
 use Rattle.kernel_model.proofs.Threading.{waits_if_same}
 use Rattle.kernel_model.proofs.Waking.{resumed_valid}
 use Rattle.run_model.specs.Legal.{FitsAct, Legal}
 use Rattle.run_model.specs.World.{World, acted, guest_of, turned, who_of, woken_state, world}
 use Rattle.run_model.proofs.Histories.{apply_is, legal_front, legal_next, world_more}
 use Rattle.run_model.proofs.Worlds.{world_is_valid}
-use Rattle.authority_laws.specs.Deliveries.{IsPut, PutsInto, SendsTo, WaitsAsNoted}
+use Rattle.authority_laws.specs.Deliveries.{IsPut, PutsInto, SendsTo}
 use Rattle.authority_laws.specs.Laws.{SendsAreNoted}
 use Rattle.authority_laws.specs.Ledger.{After, Ledger, Row, Sends, after_of, answered_row, answered_sends, by_success, channel_of, granted_sends, picked, sends_in, with_sent, written_by}
 use Rattle.authority_laws.specs.Recorded.{Replies, Succeeds, acted_sends, after_at, held_after, held_before, ledger}
@@ -60,7 +59,7 @@ use Rattle.authority_laws.proofs.OpenStays.{opens_stay}
 use Rattle.authority_laws.proofs.OpenTargets.{held_open}
 use Rattle.authority_laws.proofs.Rows.{by_either, row_of}
 use Rattle.authority_laws.proofs.SendNumbers.{sends_are_numbered}
-use Rattle.authority_laws.proofs.Sends.{AllAre, IsOf, SentNow, all_added, all_drawn, entry_goes, sent_now}
+use Rattle.authority_laws.proofs.Sends.{AllAre, IsOf, SentNow, all_added, all_drawn, entry_goes, send_at, sent_now}
 use Rattle.authority_laws.proofs.States.{step_row}
 use Rattle.authority_laws.proofs.Successes.{no_success}
 use Rattle.authority_laws.proofs.Waiting.{world_begins}
@@ -393,22 +392,6 @@ goes_on launch front (e ∷ rest) begins legal before =
     subst (AllNoted launch) same
     (goes_on launch (front ++ e ∷ []) rest begins (subst (Legal launch) (sym same) legal)
     (λ c now after. goes_noted launch front e begins here c now (before c) after (entry_goes launch front e begins here c now after)))
-
--- what holds of each of these sends holds of the one in this place
-same_number : (j : ℕ) → j ≡ j + 0
-same_number j = omega arith
-
-next_number : (j k : ℕ) → suc j + k ≡ j + suc k
-next_number j k = omega arith
-
-send_at : (P : ℕ → List Descriptor → Type 0) (j k : ℕ) (sends : List Send) (send : Send) → AllAre P j sends → slice_get sends k ≡ Some send
-    → IsOf P (suc (j + k)) send.carried
-send_at P j k [] send all at = absurd (none_is_no send at)
-send_at P j zero (first ∷ sends) send all at =
-    subst (λ (one : Send). IsOf P (suc (j + 0)) one.carried) (same_some first send at)
-    (subst (λ n. IsOf P (suc n) first.carried) (same_number j) all.0)
-send_at P j (suc k) (first ∷ sends) send all at =
-    subst (λ n. IsOf P (suc n) send.carried) (next_number j k) (send_at P (suc j) k sends send all.1 at)
 
 pub sends_are_noted : SendsAreNoted
 sends_are_noted launch history begins legal c k channel send there at =

@@ -1,8 +1,10 @@
 -- What each send carries that waits in a channel, a sock_send of the history listed.
 --     AllListed      so it is after these entries
 --     all_listed      so it is after each legal history
+--     send_at      what holds of each of some sends holds of one of them
 use Rattle.std.proofs.Common.{◌≡◌, ◌⊎◌, inl, inr, ℕ, zero, suc, ◌+◌, ◌-◌, ◌<◌, Bool, cond, List, [], ◌∷◌, ◌++◌, length, drop, Option, None, Some, refl, sym, ap, subst, ◌∙◌, arith}
 use Rattle.std.proofs.lemmas.List.{append-nil, append_assoc}
+use Rattle.std.specs.Prelude.{slice_get}
 use Rattle.std.specs.Ordering.{nat_cmp}
 use Rattle.std.specs.FinMap.{get, get-empty}
 use Rattle.abi_base.specs.declared.errno.Errno.TheVariants.{Success}
@@ -36,7 +38,7 @@ use Rattle.kernel_model.specs.Waits.{resumed}
 use Rattle.kernel_model.specs.Wakes.{IsWake}
 use Rattle.kernel_model.proofs.ChannelChanges.{by_less}
 use Rattle.kernel_model.proofs.Sending.{channels_go_on, ends_go_on, goes_weaker, stays_so}
-use Rattle.kernel_model.proofs.Tests.{none_is_no}
+use Rattle.kernel_model.proofs.Tests.{none_is_no, same_some}
 use Rattle.kernel_model.proofs.Waking.{resumed_valid}
 use Rattle.run_model.specs.Legal.{FitsAct, Fits, Legal}
 use Rattle.run_model.specs.World.{World, Guest, guest_of, called_state, woken_state, turned, acted, who_of, apply, world}
@@ -98,6 +100,16 @@ module _ (P : ℕ → List Descriptor → Type 0) where
   all_added [] send j all last = (subst (λ n. IsOf P (suc n) send.carried) (sym (same_number j)) last, tt)
   all_added (first ∷ sends) send j all last =
       (all.0, all_added sends send (suc j) all.1 (subst (λ n. IsOf P (suc n) send.carried) (last_number j (length sends)) last))
+
+-- what holds of each of these sends holds of the one in this place
+pub send_at : (P : ℕ → List Descriptor → Type 0) (j k : ℕ) (sends : List Send) (send : Send) → AllAre P j sends → slice_get sends k ≡ Some send
+    → IsOf P (suc (j + k)) send.carried
+send_at P j k [] send all at = absurd (none_is_no send at)
+send_at P j zero (first ∷ sends) send all at =
+    subst (λ (one : Send). IsOf P (suc (j + 0)) one.carried) (same_some first send at)
+    (subst (λ n. IsOf P (suc n) first.carried) (same_number j) all.0)
+send_at P j (suc k) (first ∷ sends) send all at =
+    subst (λ n. IsOf P (suc n) send.carried) (sym (last_number j k)) (send_at P (suc j) k sends send all.1 at)
 
 -- ---- what an entry leaves in a channel
 

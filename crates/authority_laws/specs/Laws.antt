@@ -106,13 +106,18 @@ abbrev pub ReleaseKeeps : Launch → List Entry → Entry → Call → Type 0
 ReleaseKeeps launch front e call =
     is_released (unreleased (world launch front).constants (world launch front).state (who_of (world launch front).state e) call) (at_status e.pid) ≡ false
 
--- After a call of a legal history that succeeded at once its process holds exactly what the call's line of `granted_row` says, unless what it
--- lets go ends the process. Where the call itself ends the process, its line alone says so: it doesn't look at who is live.
+-- After a call that succeeded at once its process holds exactly what the call's line of `granted_row` says, unless what it lets go ends the
+-- process. Where the call itself ends the process, its line alone says so: it doesn't look at who is live.
+abbrev pub LinesAt : Launch → List Entry → Entry → Type 0
+LinesAt launch front e =
+    (call : Call) (reply : Reply) → e.act ≡ act.Call call (answer.Reply reply) → reply.errno ≡ Success → ReleaseKeeps launch front e call
+    → held_after launch front e ≡ granted_row (after_at launch front e) (held_before launch front e) call reply
+
+-- So it is at each entry of a legal history.
 abbrev pub LinesAreExact : Type 0
 LinesAreExact =
     (launch : Launch) (front : List Entry) (e : Entry) (rest : List Entry) → MayBegin launch.tree launch.grants → Legal launch (front ++ e ∷ rest)
-    → (call : Call) (reply : Reply) → e.act ≡ act.Call call (answer.Reply reply) → reply.errno ≡ Success → ReleaseKeeps launch front e call
-    → held_after launch front e ≡ granted_row (after_at launch front e) (held_before launch front e) call reply
+    → LinesAt launch front e
 
 -- After an fd_replace that succeeded there stands under `to`, under which something stood, what stood under `from` before it, unless
 -- what it lets go ends its own process.
@@ -263,18 +268,21 @@ SightIsRecorded = (launch : Launch) (history : List Entry) → MayBegin launch.t
 -- ---- all of it, at each point and at each entry of a history
 
 -- after these entries the ledger says who holds what, all that is held is traced, of files, directories and standard streams to one of
--- the launch's grants, its open is of what it was of when it came, and what a call may read is reached by it
+-- the launch's grants, its open is of what it was of when it came, what waits in channels carries what the ledger says, and what a call may
+-- read is reached by what is held
 pub record IsRecordedAt (launch : Launch) (front : List Entry) : Type 0 where
   pub reports : Reports (world launch front).state (ledger launch front)
   pub traced : AllTraced launch front
   pub granted : AllOfGrants launch front
   pub stay : AllStay launch front
+  pub noted : WaitsAsNoted launch front
   pub sees : SeesByHeld launch front
 
--- at this entry copies are equal, rights are lowered to those asked, what is opened is bounded, each open stays of what it was of, and
--- no right comes that was neither held nor passed on, but for a process or an end of channels that was made; what is sent was held;
--- what is received was sent, in its place; and the numbers of sends count them
+-- at this entry its process is left what the call's line says, copies are equal, rights are lowered to those asked, what is opened is
+-- bounded, each open stays of what it was of, and no right comes that was neither held nor passed on, but for a process or an end of
+-- channels that was made; what is sent was held; what is received was sent, in its place; and the numbers of sends count them
 pub record IsRecordedEntry (launch : Launch) (front : List Entry) (e : Entry) : Type 0 where
+  pub lines : LinesAt launch front e
   pub copied : DuplicatesAt launch front e
   pub replaced : ReplacesAt launch front e
   pub lowered : LowersAt launch front e

@@ -118,10 +118,10 @@ pub fn sight_is_recorded()
 {}
 
 /// At each point of a legal history of a launch with proper grants the ledger says who holds what, all that is held is traced,
-/// of files, directories and standard streams to the launch's grants, its open is of what it was of when it came, and calls see
-/// by what is held. At each entry copies are equal, rights are lowered to those asked, opens are bounded, each open stays of
-/// what it is of, rights never grow, what is sent was held, what is received was sent, in its place, and the
-/// numbers of sends count them.
+/// of files, directories and standard streams to the launch's grants, its open is of what it was of when it came, what waits in
+/// channels carries what the ledger says, and calls see by what is held. At each entry its process is left what the call's line
+/// says, copies are equal, rights are lowered to those asked, opens are bounded, each open stays of what it is of, rights never
+/// grow, what is sent was held, what is received was sent, in its place, and the numbers of sends count them.
 pub fn legal_is_recorded()
     ensures { LegalIsRecorded }
 {}
