@@ -48,6 +48,7 @@ fn exchange(
 }
 
 // AMO.
+#[cold]
 #[inline(never)]
 fn exchange_aligned(
     regs: &mut Regs,
@@ -110,6 +111,7 @@ pub fn atomic_at(
 }
 
 // LR.
+#[cold]
 #[inline(never)]
 fn reserve(
     regs: &mut Regs,
@@ -206,6 +208,7 @@ fn store_reserved(
 }
 
 // SC.
+#[cold]
 #[inline(never)]
 fn store_aligned(
     regs: &mut Regs,

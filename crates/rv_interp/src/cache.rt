@@ -220,6 +220,7 @@ impl Cache {
     }
 
     /// Does the instruction at the pc, which is kept afterwards if it can be.
+    #[cold]
     #[inline(never)]
     pub fn step(
         &mut self,

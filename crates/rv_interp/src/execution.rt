@@ -61,6 +61,7 @@ pub fn step(regs: &mut Regs, mem: &mut GuestMemory, held: &mut Reservation) -> O
 
 // ECALL and EBREAK. It is called and not inlined: where an arm of `execute` only gave a constant, that constant would be
 // set before each instruction.
+#[cold]
 #[inline(never)]
 pub fn environment(instr: &Instr) -> Outcome
     ensures ecall { instr.now.op ≡ Op.Ecall → result ≡ Outcome.Ecall }
