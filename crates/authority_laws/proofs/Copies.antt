@@ -36,7 +36,7 @@ use Rattle.run_model.specs.Legal.{FitsAct, Legal}
 use Rattle.run_model.specs.World.{World, guest_of, acted, called_state, turned, who_of, world}
 use Rattle.run_model.proofs.Histories.{apply_is, legal_front, legal_next, world_more}
 use Rattle.run_model.proofs.Worlds.{world_is_valid}
-use Rattle.authority_laws.specs.Laws.{DuplicatesAreEqual, ReleaseKeeps, ReplacementsAreEqual, RightsAreLowered}
+use Rattle.authority_laws.specs.Laws.{DuplicatesAreEqual, LinesAreExact, ReleaseKeeps, ReplacementsAreEqual, RightsAreLowered}
 use Rattle.authority_laws.specs.Ledger.{Row, after_of, with_held, lowered_row, opened_held, granted_row, by_success}
 use Rattle.authority_laws.specs.Origins.{IsCopied, IsLowered}
 use Rattle.authority_laws.specs.Recorded.{Succeeds, after_at, held_after, held_before}
@@ -155,7 +155,7 @@ module _ (launch : Launch) (front : List Entry) (e : Entry) (rest : List Entry) 
       ∙ world_rows launch (front ++ e ∷ []) begins (up_to launch front e rest legal) e.pid
 
   -- the release after a call that lets go of nothing kills nobody
-  kills_none : (call : Call)
+  pub kills_none : (call : Call)
       → HoldsAsMuch (tick (world launch front).state) (unreleased (world launch front).constants (world launch front).state (who_of (world launch front).state e) call)
       → ReleaseKeeps launch front e call
   kills_none call as_much =
@@ -164,7 +164,7 @@ module _ (launch : Launch) (front : List Entry) (e : Entry) (rest : List Entry) 
 
   -- What it holds after a call that succeeded is what the call's line says, unless what it lets go ends the process. Of each call it
   -- is said apart that this does not.
-  granted_after : (call : Call) (reply : Reply) → IsCalled e call reply → ReleaseKeeps launch front e call
+  pub granted_after : (call : Call) (reply : Reply) → IsCalled e call reply → ReleaseKeeps launch front e call
       → held_after launch front e ≡ granted_row (after_at launch front e) (held_before launch front e) call reply
   granted_after call reply done keeps =
       let w = world launch front in
@@ -196,6 +196,10 @@ module _ (launch : Launch) (front : List Entry) (e : Entry) (rest : List Entry) 
       let w = world launch front in
       granted_after (FileOpen lookup path oflags stat) reply done
       (kills_none (FileOpen lookup path oflags stat) (open_holds w.constants w.state (who_of w.state e) lookup path oflags stat))
+
+pub lines_are_exact : LinesAreExact
+lines_are_exact launch front e rest begins legal call reply is success keeps =
+    granted_after launch front e rest begins legal call reply (record { is = is; success = success }) keeps
 
 -- ---- copies
 

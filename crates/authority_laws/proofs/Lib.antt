@@ -20,4 +20,5 @@ pub mod SendNumbers
 pub mod Deliveries
 pub mod Traces
 pub mod OpenTargets
+pub mod NotedSends
 pub mod Records

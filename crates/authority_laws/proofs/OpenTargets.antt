@@ -51,7 +51,7 @@ sent_early launch front e c d s legal =
 
 module _ (launch : Launch) (begins : MayBegin launch.tree launch.grants) where
   -- the open of what is held is there
-  held_open : (history : List Entry) (p n : ℕ) (d : Descriptor) → Legal launch history → (ledger launch history).held p n ≡ Some d
+  pub held_open : (history : List Entry) (p n : ℕ) (d : Descriptor) → Legal launch history → (ledger launch history).held p n ≡ Some d
       → (kind : OpenKind) × (get (world launch history).state.opens d.id ≡ Some kind)
   held_open history p n d legal held =
       let at = (ledger_reports launch history begins legal).held p n d held in

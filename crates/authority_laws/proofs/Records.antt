@@ -18,9 +18,10 @@ use Rattle.authority_laws.specs.Laws.{IsReachedByHeld, IsReachedByNamed, SeesByH
 use Rattle.authority_laws.specs.Recorded.{ledger}
 use Rattle.authority_laws.specs.Traces.{Traced}
 use Rattle.authority_laws.proofs.Bounds.{opens_are_bounded}
-use Rattle.authority_laws.proofs.Copies.{duplicates_are_equal, replacements_are_equal, rights_are_lowered}
+use Rattle.authority_laws.proofs.Copies.{duplicates_are_equal, lines_are_exact, replacements_are_equal, rights_are_lowered}
 use Rattle.authority_laws.proofs.Deliveries.{receives_are_sent}
 use Rattle.authority_laws.proofs.Histories.{ledger_reports, rights_never_grow, sends_are_held}
+use Rattle.authority_laws.proofs.NotedSends.{sends_are_noted}
 use Rattle.authority_laws.proofs.OpenStays.{opens_stay}
 use Rattle.authority_laws.proofs.OpenTargets.{files_come_from_grants, traced_stays}
 use Rattle.authority_laws.proofs.SendNumbers.{sends_are_numbered}
@@ -67,12 +68,14 @@ recorded_at launch front legal begins = record {
   traced = held_is_traced launch front begins legal;
   granted = files_come_from_grants launch front begins legal;
   stay = traced_stays launch front begins legal;
+  noted = sends_are_noted launch front begins legal;
   sees = sight_is_recorded launch front begins legal;
 }
 
 recorded_entry : (launch : Launch) (front : List Entry) (e : Entry) (rest : List Entry) → Legal launch (front ++ e ∷ rest)
     → MayBegin launch.tree launch.grants → IsRecordedEntry launch front e
 recorded_entry launch front e rest legal begins = record {
+  lines = lines_are_exact launch front e rest begins legal;
   copied = duplicates_are_equal launch front e rest begins legal;
   replaced = replacements_are_equal launch front e rest begins legal;
   lowered = rights_are_lowered launch front e rest begins legal;

@@ -1,8 +1,10 @@
 -- What each send carries that waits in a channel, a sock_send of the history listed.
 --     AllListed      so it is after these entries
 --     all_listed      so it is after each legal history
+--     send_at      what holds of each of some sends holds of one of them
 use Rattle.std.proofs.Common.{◌≡◌, ◌⊎◌, inl, inr, ℕ, zero, suc, ◌+◌, ◌-◌, ◌<◌, Bool, cond, List, [], ◌∷◌, ◌++◌, length, drop, Option, None, Some, refl, sym, ap, subst, ◌∙◌, arith}
 use Rattle.std.proofs.lemmas.List.{append-nil, append_assoc}
+use Rattle.std.specs.Prelude.{slice_get}
 use Rattle.std.specs.Ordering.{nat_cmp}
 use Rattle.std.specs.FinMap.{get, get-empty}
 use Rattle.abi_base.specs.declared.errno.Errno.TheVariants.{Success}
@@ -36,7 +38,7 @@ use Rattle.kernel_model.specs.Waits.{resumed}
 use Rattle.kernel_model.specs.Wakes.{IsWake}
 use Rattle.kernel_model.proofs.ChannelChanges.{by_less}
 use Rattle.kernel_model.proofs.Sending.{channels_go_on, ends_go_on, goes_weaker, stays_so}
-use Rattle.kernel_model.proofs.Tests.{none_is_no}
+use Rattle.kernel_model.proofs.Tests.{none_is_no, same_some}
 use Rattle.kernel_model.proofs.Waking.{resumed_valid}
 use Rattle.run_model.specs.Legal.{FitsAct, Fits, Legal}
 use Rattle.run_model.specs.World.{World, Guest, guest_of, called_state, woken_state, turned, acted, who_of, apply, world}
@@ -85,7 +87,7 @@ module _ (P : ℕ → List Descriptor → Type 0) where
   abbrev gone_by : ℕ → Send → List Send → Bool → ℕ
   gone_by m send rest less = cond less 0 (1 + sends_gone (m - length send.bytes) rest)
 
-  all_drawn : (sends : List Send) (m j : ℕ) → AllAre P j sends → AllAre P (j + sends_gone m sends) (sends_after m sends)
+  pub all_drawn : (sends : List Send) (m j : ℕ) → AllAre P j sends → AllAre P (j + sends_gone m sends) (sends_after m sends)
   all_drawn sends zero j all = subst (λ n. AllAre P n sends) (same_number j) all
   all_drawn [] (suc m) j all = tt
   all_drawn (send ∷ rest) (suc m) j all =
@@ -94,15 +96,25 @@ module _ (P : ℕ → List Descriptor → Type 0) where
       (λ more. subst (λ n. AllAre P n (sends_after (suc m - length send.bytes) rest)) (next_number j (sends_gone (suc m - length send.bytes) rest))
       (all_drawn rest (suc m - length send.bytes) (suc j) all.1))
 
-  all_added : (sends : List Send) (send : Send) (j : ℕ) → AllAre P j sends → IsOf P (suc (j + length sends)) send.carried → AllAre P j (sends ++ send ∷ [])
+  pub all_added : (sends : List Send) (send : Send) (j : ℕ) → AllAre P j sends → IsOf P (suc (j + length sends)) send.carried → AllAre P j (sends ++ send ∷ [])
   all_added [] send j all last = (subst (λ n. IsOf P (suc n) send.carried) (sym (same_number j)) last, tt)
   all_added (first ∷ sends) send j all last =
       (all.0, all_added sends send (suc j) all.1 (subst (λ n. IsOf P (suc n) send.carried) (last_number j (length sends)) last))
 
+-- what holds of each of these sends holds of the one in this place
+pub send_at : (P : ℕ → List Descriptor → Type 0) (j k : ℕ) (sends : List Send) (send : Send) → AllAre P j sends → slice_get sends k ≡ Some send
+    → IsOf P (suc (j + k)) send.carried
+send_at P j k [] send all at = absurd (none_is_no send at)
+send_at P j zero (first ∷ sends) send all at =
+    subst (λ (one : Send). IsOf P (suc (j + 0)) one.carried) (same_some first send at)
+    (subst (λ n. IsOf P (suc n) first.carried) (same_number j) all.0)
+send_at P j (suc k) (first ∷ sends) send all at =
+    subst (λ n. IsOf P (suc n) send.carried) (sym (last_number j k)) (send_at P (suc j) k sends send all.1 at)
+
 -- ---- what an entry leaves in a channel
 
 -- the act is a sock_send of a byte at least to channel c, which succeeded, and lists this
-record SentNow (S : State) (who : Who) (a : Act) (c : ℕ) (carried : List Descriptor) : Type 0 where
+pub record SentNow (S : State) (who : Who) (a : Act) (c : ℕ) (carried : List Descriptor) : Type 0 where
   fd : ℕ
   bytes : List ℕ
   fds : List ℕ
@@ -122,7 +134,7 @@ record SentNow (S : State) (who : Who) (a : Act) (c : ℕ) (carried : List Descr
   listed : carried ≡ channel_calls.picked table fds
 
 -- how a channel goes on by an act
-abbrev GoesBy : State → State → Who → Act → ℕ → Type 0
+abbrev pub GoesBy : State → State → Who → Act → ℕ → Type 0
 GoesBy S T who a c = (now : Channel) → get T.chans c ≡ Some now → GoesOn (λ carried. (carried ≡ []) ⊎ SentNow S who a c carried) (get S.chans c) now
 
 by_call : (S : State) (who : Who) (call : Call) (given : Answer) (c : ℕ) (carried : List Descriptor)
@@ -213,7 +225,7 @@ applied_goes w e valid fits c =
     subst (λ (v : World). GoesBy w.state v.state (who_of w.state e) e.act c) (sym (apply_is w e))
     (acted_goes (turned w e.pid e.turns) (who_of w.state e) (guest_of w e.pid) e.turns e.act valid fits.act c)
 
-entry_goes : (launch : Launch) (front : List Entry) (e : Entry) → MayBegin launch.tree launch.grants → Legal launch (front ++ e ∷ []) → (c : ℕ)
+pub entry_goes : (launch : Launch) (front : List Entry) (e : Entry) → MayBegin launch.tree launch.grants → Legal launch (front ++ e ∷ []) → (c : ℕ)
     → GoesBy (world launch front).state (world launch (front ++ e ∷ [])).state (who_of (world launch front).state e) e.act c
 entry_goes launch front e begins legal c =
     subst (λ (v : World). GoesBy (world launch front).state v.state (who_of (world launch front).state e) e.act c) (sym (world_more launch front e))
@@ -254,15 +266,13 @@ module _ (launch : Launch) (front : List Entry) (e : Entry) (begins : MayBegin l
     number = s.number;
   }
 
-  -- what this one put there
-  newer : (c : ℕ) (was : Channel) (carried : List Descriptor) → get (world launch front).state.chans c ≡ Some was
-      → (carried ≡ []) ⊎ SentNow (world launch front).state (who_of (world launch front).state e) e.act c carried
-      → IsOf (IsSend launch (front ++ e ∷ []) c) (suc (was.left + length was.waiting)) carried
-  newer c was carried there (inl bare) = inl bare
-  newer c was carried there (inr sent) =
+  -- what this one sent, by what its process held
+  pub sent_now : (c : ℕ) (carried : List Descriptor) → SentNow (world launch front).state (who_of (world launch front).state e) e.act c carried
+      → SendsTo launch front e c carried
+  sent_now c carried sent =
       let reports = ledger_reports launch front begins (legal_front launch front (e ∷ []) legal) in
       let same : (n : ℕ) → get sent.table n ≡ held_before launch front e n = reports.tables e.pid sent.table sent.own in
-      let sends : SendsTo launch front e c carried = record {
+      record {
         fd = sent.fd;
         bytes = sent.bytes;
         fds = sent.fds;
@@ -276,8 +286,15 @@ module _ (launch : Launch) (front : List Entry) (e : Entry) (begins : MayBegin l
         mode = sent.mode;
         opened = sent.opened;
         listed = sent.listed ∙ picked_same sent.table (held_before launch front e) same sent.fds;
-      } in
-      inr (record { early = front; sender = e; between = []; is = refl; sends = sends; channel = was; there = there; number = refl })
+      }
+
+  -- what this one put there
+  newer : (c : ℕ) (was : Channel) (carried : List Descriptor) → get (world launch front).state.chans c ≡ Some was
+      → (carried ≡ []) ⊎ SentNow (world launch front).state (who_of (world launch front).state e) e.act c carried
+      → IsOf (IsSend launch (front ++ e ∷ []) c) (suc (was.left + length was.waiting)) carried
+  newer c was carried there (inl bare) = inl bare
+  newer c was carried there (inr sent) =
+      inr (record { early = front; sender = e; between = []; is = refl; sends = sent_now c carried sent; channel = was; there = there; number = refl })
 
   abbrev Then : ℕ → ℕ → List Descriptor → Type 0
   Then c = IsSend launch (front ++ e ∷ []) c

@@ -30,7 +30,7 @@ use Rattle.run_model.specs.World.{called_state, guest_of, who_of, world}
 use Rattle.run_model.proofs.Histories.{legal_front, legal_next}
 use Rattle.run_model.proofs.Worlds.{world_is_valid}
 use Rattle.authority_laws.specs.Ledger.{After, Ledger, Row, answered_row, came_for, installed_fds, no_row, put_each, with_child, with_held, launch_ledger, launch_row, lowered_row, granted_row, new_held, by_success}
-use Rattle.authority_laws.specs.Laws.{TracedIsWithinRoot}
+use Rattle.authority_laws.specs.Laws.{TracedIsHandedOn, TracedIsWithinRoot}
 use Rattle.authority_laws.specs.Origins.{InheritsFrom, IsCopied, IsNoMoreThan}
 use Rattle.authority_laws.specs.Recorded.{Replies, Succeeds, acted_row, after_at, child_at, held_after, held_before, ledger}
 use Rattle.authority_laws.specs.Traces.{AllTraced, IsGranted, IsWithin, Lists, Lowers, OpensFrom, Receives, Root, Traced, first_open, of_entry, of_grant, root}
@@ -350,6 +350,20 @@ traced_is_held launch history p n d (way.inherited front e q m x child before he
 traced_is_held launch history p n d (way.listed front e k m x lists before here) = here
 traced_is_held launch history p n d (way.made front e m x makes is here) = here
 traced_is_held launch history p n d (way.received front e m c x receives s before here) = here
+
+-- ---- from whom to whom
+
+pub traced_is_handed_on : TracedIsHandedOn
+traced_is_handed_on launch history p n d (way.granted k grant is) = tt
+traced_is_handed_on launch history p n d (way.kept front e q m x before here) = inl (inl refl)
+traced_is_handed_on launch history p n d (way.copied front e from to copies c before) = inl (inl refl)
+traced_is_handed_on launch history p n d (way.lowered front e m stat lowers l before) = inl (inl refl)
+traced_is_handed_on launch history p n d (way.opened front e fd to stat opens o before) = inl (inl refl)
+traced_is_handed_on launch history p n d (way.inherited front e q m x child before here) = inl (inr (refl, child))
+traced_is_handed_on launch history p n d (way.listed front e k m x lists before here) = inl (inl refl)
+traced_is_handed_on launch history p n d (way.made front e m x makes is here) = tt
+traced_is_handed_on launch history p n d (way.received front e m c x receives s before here) =
+    inr (record { own = refl; n = m; c = c; d = x; receives = receives; sent = s; sender = refl })
 
 -- ---- the root of a trace
 

@@ -9,10 +9,10 @@ use Rattle.abi_types.specs.declared.reply.Reply.{Reply}
 use Rattle.abi_types.specs.declared.status.Status.TheVariants.{Live}
 use Rattle.run_types.specs.declared.history.Entry.{Entry}
 use Rattle.run_types.specs.declared.launch.Launch.{Launch}
-use Rattle.kernel_model.specs.Channels.{Channel}
+use Rattle.kernel_model.specs.Channels.{Channel, Send}
 use Rattle.run_model.specs.World.{world}
 use Rattle.authority_laws.specs.Ledger.{installed_fds, picked}
-use Rattle.authority_laws.specs.Recorded.{Succeeds, held_after, held_before}
+use Rattle.authority_laws.specs.Recorded.{Succeeds, held_after, held_before, ledger}
 
 -- The entry behind these is a sock_send of a byte at least that succeeded. By what its process held before it the socket's open writes
 -- channel c, and this is what stood under the numbers that it lists, in their order.
@@ -105,3 +105,12 @@ BeginsCount launch front e =
 -- So the numbers of a channel's sends count, from its beginning on, the entries that put something into it.
 abbrev pub CountsAt : Launch → List Entry → Entry → Type 0
 CountsAt launch front e = CountsMore launch front e × BeginsCount launch front e
+
+-- ---- what the ledger says of sends
+
+-- Each send that waits in a channel after these entries carries what the ledger says, under its number, that it carried when it was sent; or it
+-- carries nothing.
+abbrev pub WaitsAsNoted : Launch → List Entry → Type 0
+WaitsAsNoted launch history =
+    (c k : ℕ) (channel : Channel) (send : Send) → get (world launch history).state.chans c ≡ Some channel → slice_get channel.waiting k ≡ Some send
+    → (send.carried ≡ []) ⊎ ((ledger launch history).sent c (suc (channel.left + k)) ≡ send.carried)

@@ -1,6 +1,7 @@
 -- What the ledger says of every legal history: the statements that are the contracts of the functions of src/laws.rt.
 use Rattle.std.specs.Prelude.{◌≡◌, ◌≢◌, ◌⊎◌, ℕ, bit_and, true, false, List, [], ◌∷◌, ◌++◌, None, Some, IsSome}
 use Rattle.std.specs.FinMap.{get}
+use Rattle.abi_base.specs.declared.errno.Errno.TheVariants.{Success}
 use Rattle.tree_model.specs.Grants.{MayBegin}
 use Rattle.abi_structures.specs.declared.structures.FdStat.{FdStat}
 use Rattle.abi_types.specs.declared.call.Call.{Call}
@@ -8,9 +9,11 @@ use Rattle.abi_types.specs.declared.call.Call.TheVariants.{FdDup, FdReplace, FdS
 use Rattle.abi_types.specs.declared.call.Lookup.{Lookup}
 use Rattle.abi_types.specs.declared.descriptor.Descriptor.{Descriptor}
 use Rattle.abi_types.specs.declared.needed.Needed.{Needed}
+use Rattle.abi_types.specs.declared.reply.Answer.TheVariants as answer
 use Rattle.abi_types.specs.declared.reply.Reply.{Reply}
 use Rattle.abi_types.specs.declared.status.Status.TheVariants.{Live}
 use Rattle.abi_types.specs.declared.who.Who.{Who}
+use Rattle.run_types.specs.declared.history.Act.TheVariants as act
 use Rattle.run_types.specs.declared.history.Entry.{Entry}
 use Rattle.run_types.specs.declared.launch.Launch.{Launch}
 use Rattle.kernel_model.specs.Calls.{named, need}
@@ -23,11 +26,11 @@ use Rattle.kernel_model.specs.State.{State, Table, Part, at_open, at_status, has
 use Rattle.kernel_model.specs.Step.{sight, unreleased}
 use Rattle.run_model.specs.Legal.{Legal}
 use Rattle.run_model.specs.World.{who_of, world}
-use Rattle.authority_laws.specs.Deliveries.{CountsAt, DeliversAt}
-use Rattle.authority_laws.specs.Ledger.{Ledger, launch_ledger}
+use Rattle.authority_laws.specs.Deliveries.{CountsAt, DeliversAt, WaitsAsNoted}
+use Rattle.authority_laws.specs.Ledger.{Ledger, granted_row, launch_ledger}
 use Rattle.authority_laws.specs.Origins.{Change, ChangeOfOther, ComesFrom, SendsComeFrom, IsCopied, IsLowered, IsOpened}
 use Rattle.authority_laws.specs.Recorded.{Succeeds, after_at, held_after, held_before, ledger, noted}
-use Rattle.authority_laws.specs.Traces.{AllOfGrants, AllStay, AllTraced, IsWithin, Traced, first_open, root}
+use Rattle.authority_laws.specs.Traces.{AllOfGrants, AllStay, AllTraced, IsHandedOn, IsWithin, Traced, first_open, root}
 
 -- ---- the ledger of one more entry
 
@@ -103,6 +106,19 @@ abbrev pub ReleaseKeeps : Launch → List Entry → Entry → Call → Type 0
 ReleaseKeeps launch front e call =
     is_released (unreleased (world launch front).constants (world launch front).state (who_of (world launch front).state e) call) (at_status e.pid) ≡ false
 
+-- After a call that succeeded at once its process holds exactly what the call's line of `granted_row` says, unless what it lets go ends the
+-- process. Where the call itself ends the process, its line alone says so: it doesn't look at who is live.
+abbrev pub LinesAt : Launch → List Entry → Entry → Type 0
+LinesAt launch front e =
+    (call : Call) (reply : Reply) → e.act ≡ act.Call call (answer.Reply reply) → reply.errno ≡ Success → ReleaseKeeps launch front e call
+    → held_after launch front e ≡ granted_row (after_at launch front e) (held_before launch front e) call reply
+
+-- So it is at each entry of a legal history.
+abbrev pub LinesAreExact : Type 0
+LinesAreExact =
+    (launch : Launch) (front : List Entry) (e : Entry) (rest : List Entry) → MayBegin launch.tree launch.grants → Legal launch (front ++ e ∷ rest)
+    → LinesAt launch front e
+
 -- After an fd_replace that succeeded there stands under `to`, under which something stood, what stood under `from` before it, unless
 -- what it lets go ends its own process.
 abbrev pub ReplacesAt : Launch → List Entry → Entry → Type 0
@@ -158,6 +174,10 @@ SendsAreNumbered =
     (launch : Launch) (front : List Entry) (e : Entry) (rest : List Entry) → MayBegin launch.tree launch.grants → Legal launch (front ++ e ∷ rest)
     → CountsAt launch front e
 
+-- What waits in the channels of a legal history's world carries what the ledger says that it carried when it was sent, or nothing.
+abbrev pub SendsAreNoted : Type 0
+SendsAreNoted = (launch : Launch) (history : List Entry) → MayBegin launch.tree launch.grants → Legal launch history → WaitsAsNoted launch history
+
 -- Each open that is there before and after an entry is after it of the file, the directory, the stream, the channels or the process
 -- that it was of before it.
 abbrev pub OpensStayAt : Launch → List Entry → Entry → Type 0
@@ -188,6 +208,12 @@ TracedStays = (launch : Launch) (history : List Entry) → MayBegin launch.tree 
 abbrev pub TracedIsHeld : Type 0
 TracedIsHeld =
     (launch : Launch) (history : List Entry) (p n : ℕ) (d : Descriptor) → Traced launch history p n d → (ledger launch history).held p n ≡ Some d
+
+-- At each step of a trace what a process held comes to that process itself, to one that it made by the step's entry, or to one that received
+-- by it what it had sent. Each trace within a trace is one too, so it is so all along the way.
+abbrev pub TracedIsHandedOn : Type 0
+TracedIsHandedOn =
+    (launch : Launch) (history : List Entry) (p n : ℕ) (d : Descriptor) (trace : Traced launch history p n d) → IsHandedOn launch history p n d trace
 
 -- A traced descriptor has no right but those that the grant at the root of its trace has or passes on. Where an entry made the open at
 -- the root, it passes on nothing, and is of an open of a process or an end of channels, or has no right at all.
@@ -242,18 +268,21 @@ SightIsRecorded = (launch : Launch) (history : List Entry) → MayBegin launch.t
 -- ---- all of it, at each point and at each entry of a history
 
 -- after these entries the ledger says who holds what, all that is held is traced, of files, directories and standard streams to one of
--- the launch's grants, its open is of what it was of when it came, and what a call may read is reached by it
+-- the launch's grants, its open is of what it was of when it came, what waits in channels carries what the ledger says, and what a call may
+-- read is reached by what is held
 pub record IsRecordedAt (launch : Launch) (front : List Entry) : Type 0 where
   pub reports : Reports (world launch front).state (ledger launch front)
   pub traced : AllTraced launch front
   pub granted : AllOfGrants launch front
   pub stay : AllStay launch front
+  pub noted : WaitsAsNoted launch front
   pub sees : SeesByHeld launch front
 
--- at this entry copies are equal, rights are lowered to those asked, what is opened is bounded, each open stays of what it was of, and
--- no right comes that was neither held nor passed on, but for a process or an end of channels that was made; what is sent was held;
--- what is received was sent, in its place; and the numbers of sends count them
+-- at this entry its process is left what the call's line says, copies are equal, rights are lowered to those asked, what is opened is
+-- bounded, each open stays of what it was of, and no right comes that was neither held nor passed on, but for a process or an end of
+-- channels that was made; what is sent was held; what is received was sent, in its place; and the numbers of sends count them
 pub record IsRecordedEntry (launch : Launch) (front : List Entry) (e : Entry) : Type 0 where
+  pub lines : LinesAt launch front e
   pub copied : DuplicatesAt launch front e
   pub replaced : ReplacesAt launch front e
   pub lowered : LowersAt launch front e

@@ -17,7 +17,7 @@ use Rattle.kernel_model.specs.Start.{granted_descriptor}
 use Rattle.kernel_model.specs.State.{State}
 use Rattle.run_model.specs.World.{world}
 use Rattle.authority_laws.specs.Ledger.{carried_first, installed_fds, is_new}
-use Rattle.authority_laws.specs.Origins.{ComesFromGrant, HasNoRight, IsCopied, IsLowered, IsOpened, PassesOnNothing}
+use Rattle.authority_laws.specs.Origins.{ComesFromGrant, Gives, HasNoRight, IsCopied, IsLowered, IsOpened, PassesOnNothing}
 use Rattle.authority_laws.specs.Recorded.{Succeeds, after_at, child_at, held_after, held_before, ledger}
 
 -- the launch lists this grant under number k, and the open that it gives at the start is of what the grant is of
@@ -181,6 +181,39 @@ first_open launch history p n d (inherited front e q m x child before here) = fi
 first_open launch history p n d (listed front e k m x lists before here) = first_open launch front e.pid m x before
 first_open launch history p n d (made front e m x makes is here) = is.kind
 first_open launch history p n d (received front e m c x receives s before here) = first_open launch s.early s.sender.pid s.m x before
+
+-- ---- from whom to whom
+
+-- the process that holds what is traced
+abbrev pub holder : (launch : Launch) (history : List Entry) (p n : ℕ) (d : Descriptor) → Traced launch history p n d → ℕ
+holder launch history p n d trace = p
+
+-- by the entry process p received what an earlier entry of process q sent
+pub record IsSentBy (launch : Launch) (front : List Entry) (e : Entry) (q p : ℕ) : Type 0 where
+  pub own : p ≡ e.pid
+  pub n : ℕ
+  pub c : ℕ
+  pub d : Descriptor
+  pub receives : Receives launch front e n c d
+  pub sent : IsSentEarlier launch front c d
+  pub sender : q ≡ sent.sender.pid
+
+-- What process q held process p may hold after the entry: it is p itself, or made p by the entry, or sent it what p received by the entry.
+abbrev pub HandsOn : Launch → List Entry → Entry → ℕ → ℕ → Type 0
+HandsOn launch front e q p = Gives (after_at launch front e) e q p ⊎ IsSentBy launch front e q p
+
+-- So what the trace says stood behind it before the last of its entries was held by such a process.
+abbrev pub IsHandedOn : (launch : Launch) (history : List Entry) (p n : ℕ) (d : Descriptor) → Traced launch history p n d → Type 0
+IsHandedOn launch history p n d (granted k grant is) = ⊤
+IsHandedOn launch history p n d (kept front e q m x before here) = HandsOn launch front e (holder launch front q m x before) q
+IsHandedOn launch history p n d (copied front e from to copies c before) = HandsOn launch front e (holder launch front e.pid from c.d before) e.pid
+IsHandedOn launch history p n d (lowered front e m stat lowers l before) = HandsOn launch front e (holder launch front e.pid m l.x before) e.pid
+IsHandedOn launch history p n d (opened front e fd to stat opens o before) = HandsOn launch front e (holder launch front e.pid fd o.x before) e.pid
+IsHandedOn launch history p n d (inherited front e q m x child before here) = HandsOn launch front e (holder launch front e.pid m x before) q
+IsHandedOn launch history p n d (listed front e k m x lists before here) = HandsOn launch front e (holder launch front e.pid m x before) e.pid
+IsHandedOn launch history p n d (made front e m x makes is here) = ⊤
+IsHandedOn launch history p n d (received front e m c x receives s before here) =
+    HandsOn launch front e (holder launch s.early s.sender.pid s.m x before) e.pid
 
 -- The open of each traced descriptor is there after these entries, and is of what it was of when it came: where the launch granted it
 -- or where an entry opened it.

@@ -1,5 +1,5 @@
 //! Laws of the ledger. The statements are in `specs/Laws.antt`, and each holds of every launch and history.
-ghost use Rattle.authority_laws.specs.Laws.{LedgerBegins, LedgerGoesOn, LedgerReports, RightsNeverGrow, SendsAreHeld, EntryChangesOne, DuplicatesAreEqual, ReplacementsAreEqual, RightsAreLowered, OpensAreBounded, OpensStayOfWhatTheyAre, ReceivesAreSent, SendsAreNumbered, HeldIsTraced, TracedStays, TracedIsHeld, TracedIsWithinRoot, FilesComeFromGrants, TablesAreRecorded, SightIsRecorded, LegalIsRecorded};
+ghost use Rattle.authority_laws.specs.Laws.{LedgerBegins, LedgerGoesOn, LedgerReports, LinesAreExact, RightsNeverGrow, SendsAreHeld, SendsAreNoted, EntryChangesOne, DuplicatesAreEqual, ReplacementsAreEqual, RightsAreLowered, OpensAreBounded, OpensStayOfWhatTheyAre, ReceivesAreSent, SendsAreNumbered, HeldIsTraced, TracedStays, TracedIsHandedOn, TracedIsHeld, TracedIsWithinRoot, FilesComeFromGrants, TablesAreRecorded, SightIsRecorded, LegalIsRecorded};
 
 /// The ledger of no entry is the launch's, and that of one more entry is the ledger before it with the entry noted.
 pub fn ledger_goes_on()
@@ -32,6 +32,13 @@ pub fn rights_never_grow()
 /// made two ends, so it is under two numbers. Or under some numbers comes what the first send carried that waited for a socket.
 pub fn entry_changes_one()
     ensures { EntryChangesOne }
+{}
+
+/// After a call of a legal history that succeeded at once its process holds exactly what the call's line in the ledger says, unless what
+/// it lets go ends the process. Of a call that ends its process, by `proc_exit`, by a signal or with its last thread, the line alone
+/// says that nothing is held, whoever is live.
+pub fn lines_are_exact()
+    ensures { LinesAreExact }
 {}
 
 /// A copy has the open and exactly the rights of what was copied, as they were at that entry. After an `fd_dup` of a legal
@@ -79,18 +86,25 @@ pub fn sends_are_numbered()
     ensures { SendsAreNumbered }
 {}
 
+/// The ledger says of each send what it carried: each that waits in a channel of a legal history's world carries that, or nothing.
+pub fn sends_are_noted()
+    ensures { SendsAreNoted }
+{}
+
 /// Each descriptor that the ledger of a legal history says is held was granted by the launch; or copied, lowered or opened
 /// through a directory's descriptor which the process held at that entry and which is traced itself, with no right that
 /// this one does not pass on, and of what is below that directory; or the process that made the process held it; or it is
 /// of a process or an end of channels that an entry made, and passes on nothing; or it was received, with the rights with
 /// which a process held it, traced itself, under a number that its `sock_send` to the socket's channel lists. What is
-/// traced is held. The trace of a file, a directory or a standard stream begins with a grant, and what is traced has no
+/// traced is held. At each step of a trace what a process held comes to that process, to one that it made, or to one that received what it
+/// had sent. The trace of a file, a directory or a standard stream begins with a grant, and what is traced has no
 /// right but those that its grant has or passes on. Where an open that was made stands in place of the grant it passes on
 /// nothing, and is of a process or an end of channels, or has no right at all. Each descriptor in a table of the history's
 /// world is there by the ledger, and traced.
 pub fn held_is_traced()
     ensures ledger { HeldIsTraced }
     ensures held { TracedIsHeld }
+    ensures handed { TracedIsHandedOn }
     ensures rights { TracedIsWithinRoot }
     ensures files { FilesComeFromGrants }
     ensures tables { TablesAreRecorded }
@@ -104,10 +118,10 @@ pub fn sight_is_recorded()
 {}
 
 /// At each point of a legal history of a launch with proper grants the ledger says who holds what, all that is held is traced,
-/// of files, directories and standard streams to the launch's grants, its open is of what it was of when it came, and calls see
-/// by what is held. At each entry copies are equal, rights are lowered to those asked, opens are bounded, each open stays of
-/// what it is of, rights never grow, what is sent was held, what is received was sent, in its place, and the
-/// numbers of sends count them.
+/// of files, directories and standard streams to the launch's grants, its open is of what it was of when it came, what waits in
+/// channels carries what the ledger says, and calls see by what is held. At each entry its process is left what the call's line
+/// says, copies are equal, rights are lowered to those asked, opens are bounded, each open stays of what it is of, rights never
+/// grow, what is sent was held, what is received was sent, in its place, and the numbers of sends count them.
 pub fn legal_is_recorded()
     ensures { LegalIsRecorded }
 {}

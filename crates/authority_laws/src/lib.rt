@@ -7,6 +7,6 @@ pub mod laws;
 
 pub use laws::{
     copies_are_equal, entry_changes_one, held_is_traced, ledger_goes_on, ledger_reports,
-    legal_is_recorded, receives_are_sent, rights_are_lowered, rights_never_grow,
-    sends_are_numbered, sight_is_recorded,
+    legal_is_recorded, lines_are_exact, receives_are_sent, rights_are_lowered, rights_never_grow,
+    sends_are_noted, sends_are_numbered, sight_is_recorded,
 };

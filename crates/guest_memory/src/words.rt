@@ -61,6 +61,7 @@ impl GuestMemory {
     }
 
     // Writes the `n` lowest bytes of a number wherever they lie, and notes the first one's page.
+    #[cold]
     #[inline(never)]
     fn store_anywhere(&mut self, at: u64, n: u32, v: u64) -> Result<(), MemFault>
         requires { IsWidth n }
@@ -91,6 +92,7 @@ impl GuestMemory {
     }
 
     // The number of bytes wherever they lie. It notes the first one's page.
+    #[cold]
     #[inline(never)]
     fn load_anywhere(&mut self, access: Access, at: u64, n: u32) -> Result<u64, MemFault>
         requires { IsWidth n }

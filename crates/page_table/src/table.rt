@@ -142,6 +142,7 @@ impl PageTable {
     }
 
     // The page of this number, if there is one, by the index alone.
+    #[cold]
     #[inline(never)]
     fn looked_up(&self, number: u64) -> Option<&MappedPage>
         ensures { option_copied result ≡ map.get self.now number }

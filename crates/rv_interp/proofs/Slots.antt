@@ -1,17 +1,17 @@
 -- Slots of decoded instructions.
---     empty_true, all_empty      a slot of an odd address is true of every memory
 --     code_kept      a page that can't be written stays, so one that can be executed too
---     kept_true, all_kept      what is true stays true where pages that can be executed and not written stay
---     filled_true, kept_instruction      an instruction of a page that can't be written makes a true slot
---     holds_kept, holds_filled, holds_names      a slot has the instruction at an address
---     decoded, none      the instruction that is next
-use Rattle.std.proofs.Common.{◌≡◌, ℕ, zero, suc, ◌+◌, ◌/◌, ◌%◌, ◌^◌, ◌<◌, ◌≤◌, Bool, true, false, List, [], Option, Some, None, Result, Ok, Err, IfErr, length, get_or, replicate, set, pos, refl, sym, ap, subst, ◌∙◌, arith}
-use Rattle.std.proofs.lemmas.List.Elements.{All-get_or, All-replicate, All-set, All-weaker}
-use Rattle.std.proofs.lemmas.List.{get_or_default, get_or-set_same, length-set}
+--     from_kept, all_kept      what is true stays true where pages that can be executed and not written stay
+--     kept_instruction      an instruction of a page that can't be written makes a true slot
+--     all_empty, set_true, slot_true      slots with no instruction, with one more, and one of them
+--     decoded, step_at      the instruction that is next
+use Rattle.std.proofs.Common.{◌≡◌, ℕ, zero, suc, ◌+◌, ◌/◌, ◌%◌, ◌^◌, ◌<◌, ◌≤◌, Bool, true, false, List, [], ◌∷◌, ◌++◌, if◌then◌else◌, Option, Some, None, Result, Ok, Err, IfErr, IfSome, length, get_or, replicate, set, pos, inl, inr, refl, sym, ap, subst, ◌∙◌, arith}
+use Rattle.std.proofs.lemmas.Bool.Decides.{eqb_tells}
+use Rattle.std.proofs.lemmas.List.Elements.{All-push, All-weaker}
+use Rattle.std.proofs.lemmas.List.{get_or-replicate, get_or-set_same, get_or-set_other, length-replicate, length-set}
 use Rattle.std.specs.FinMap.{get}
 use Rattle.std.specs.Result.{is_err}
 use Rattle.abi_base.specs.Registers.{Registers}
-use Rattle.abi_base.specs.declared.signal.Signal.{Signal}
+use Rattle.abi_base.specs.declared.signal.Signal.TheVariants as signal
 use Rattle.guest_memory.specs.declared.access.Access.{Access}
 use Rattle.guest_memory.specs.declared.access.Access.TheVariants.{Write, Exec}
 use Rattle.guest_memory.specs.declared.fault.MemFault.{MemFault}
@@ -22,11 +22,17 @@ use Rattle.guest_memory.specs.Written.{KeepsCode, KeepsUnwritable}
 use Rattle.rv_code.specs.declared.instr.Instr.{Instr}
 use Rattle.rv_code.specs.declared.instr.Op.TheVariants as op
 use Rattle.rv_code.specs.Formats.{NamesRegisters}
-use Rattle.rv_interp.specs.declared.cache.Slot.{Slot}
+use Rattle.rv_interp.specs.declared.regions.Region.{Region}
+use Rattle.rv_interp.specs.declared.slot.Slot.{Slot}
+use Rattle.rv_interp.specs.declared.execution.Outcome.{Outcome}
+use Rattle.rv_interp.specs.declared.execution.Outcome.TheVariants as outcome
 use Rattle.rv_interp.specs.declared.reservation.Reservation.{Reservation}
-use Rattle.rv_interp.specs.Cache.{IsFixedAt, IsTrue, AreTrue, HoldsAt}
-use Rattle.rv_interp.specs.Machine.{Step, machine}
-use Rattle.rv_interp.specs.Instructions.{fetched_in, instruction_at, begun_of, execute_of, step_of, step_trapped}
+use Rattle.rv_interp.specs.Cache.{IsFixedAt, IsTrueAt, AreTrueFrom, RegionIsTrue, AreTrue}
+use Rattle.rv_interp.specs.Slots.{address_at, instr_of}
+use Rattle.rv_interp.specs.Kinds.{kind_of}
+use Rattle.rv_interp.proofs.PlaceLaws.{aligned_place}
+use Rattle.rv_interp.specs.Machine.{Machine, Step, machine}
+use Rattle.rv_interp.specs.Instructions.{fetched_in, instruction_at, begun_of, execute_of, meaning_of, step_of}
 
 -- ---- bytes of one page
 
@@ -51,18 +57,6 @@ unfolding instruction_at
 same_instruction m n pc e small place = ap (λ bytes. fetched_in (number_in bytes)) (same_bytes Exec m n 4 pc e small (omega arith))
 
 -- ---- slots
-
--- no instruction is at an odd address
-abbrev pub empty_slot : Slot
-empty_slot = record { pc = 1; instr = record { op = op.Fence; rd = 0; rs1 = 0; rs2 = 0; imm = pos 0 } }
-
-pub empty_true : (m : Pages) (slot : Slot) → slot.pc ≡ 1 → NamesRegisters slot.instr → IsTrue m slot
-empty_true m slot odd names = record { registers = names; fixed = λ place. absurd (omega (arith, odd, place)) }
-
--- slots with no instruction
-pub all_empty : (m : Pages) (slots : List Slot) (n : ℕ) → slots ≡ replicate n empty_slot → AreTrue m slots
-all_empty m slots n e =
-    subst (AreTrue m) (sym e) (All-replicate (IsTrue m) n empty_slot (empty_true m empty_slot refl (omega arith, omega arith, omega arith)))
 
 -- a page from which an instruction was fetched can be executed
 executable_in : (p : Page) (a : ℕ) (b : Bool) (i : Instr) (rest : Result (List ℕ) MemFault) → p.prot.exec ≡ b
@@ -92,12 +86,20 @@ kept_fixed m n pc i keeps place h =
       instruction = same_instruction n m pc (there ∙ sym h.there) h.small place ∙ h.instruction;
     }
 
-pub kept_true : (m n : Pages) → KeepsCode m n → (slot : Slot) → IsTrue m slot → IsTrue n slot
-kept_true m n keeps slot h =
-    record { registers = h.registers; fixed = λ place. kept_fixed m n slot.pc slot.instr keeps place (h.fixed place) }
+kept_true : (m n : Pages) (pc : ℕ) → KeepsCode m n → pc % 4 ≡ 0 → (slot : Slot) → IsTrueAt m pc slot → IsTrueAt n pc slot
+kept_true m n pc keeps multiple slot h =
+    record { registers = h.registers; fixed = λ full. kept_fixed m n pc (instr_of slot) keeps multiple (h.fixed full) }
 
-pub all_kept : (m n : Pages) (slots : List Slot) → KeepsCode m n → AreTrue m slots → AreTrue n slots
-all_kept m n slots keeps h = All-weaker (IsTrue m) (IsTrue n) (λ slot. kept_true m n keeps slot) slots h
+pub from_kept : (m n : Pages) (base : ℕ) (slots : List Slot) → KeepsCode m n → AreTrueFrom m base slots → AreTrueFrom n base slots
+from_kept m n base slots keeps h =
+    record {
+      aligned = h.aligned;
+      each = λ place d within. kept_true m n (address_at base place) keeps (aligned_place base place h.aligned) (get_or slots place d) (h.each place d within);
+    }
+
+pub all_kept : (m n : Pages) (regions : List Region) → KeepsCode m n → AreTrue m regions → AreTrue n regions
+all_kept m n regions keeps h =
+    All-weaker (RegionIsTrue m) (RegionIsTrue n) (λ region. from_kept m n region.base region.slots.items keeps) regions h
 
 -- ---- a page that can't be written
 
@@ -114,14 +116,11 @@ unwritable_page m a None i rest fault e had refused = absurd (cc)
 unwritable_page m a (Some p) i rest fault e had refused = (p, e, refused_write p a p.prot.write refl fault refused)
 
 -- an instruction that was fetched from a page that can't be written
-pub filled_true : (m : Pages) (pc : ℕ) (i : Instr) (fault : MemFault) → instruction_at m pc ≡ Ok i → bytes_from Write m pc 1 ≡ Err fault → pc < 2 ^ 64 → NamesRegisters i → IsTrue m (record { pc = pc; instr = i })
+fixed_by : (m : Pages) (pc : ℕ) (i : Instr) (fault : MemFault) → instruction_at m pc ≡ Ok i → bytes_from Write m pc 1 ≡ Err fault → pc < 2 ^ 64 → IsFixedAt m pc i
 unfolding instruction_at bytes_from
-filled_true m pc i fault had refused small names =
+fixed_by m pc i fault had refused small =
     let page = unwritable_page m pc (get m (pc / 4096)) i (bytes_from Exec m ((pc + 1) % 2 ^ 64) 3) fault refl had refused in
-    record {
-      registers = names;
-      fixed = λ place. record { small = small; page = page.0; there = page.1; unwritable = page.2; instruction = had };
-    }
+    record { small = small; page = page.0; there = page.1; unwritable = page.2; instruction = had }
 
 -- ---- the cache
 
@@ -131,45 +130,80 @@ failure b (Ok x) h e = absurd (cc)
 failure b (Err fault) h e = (fault, h)
 
 -- the instruction at an address makes a true slot, where the check says that its page can't be written
-pub kept_instruction : {A : Type 0} (m : Pages) (pc : ℕ) (i : Instr) (r : Result A MemFault) → IfErr r (λ fault. bytes_from Write m pc 1 ≡ Err fault) → is_err r ≡ true → pc < 2 ^ 64 → instruction_at m pc ≡ Ok i
-    → NamesRegisters i → IsTrue m (record { pc = pc; instr = i })
-kept_instruction m pc i r refused e small had names =
+pub kept_instruction : {A : Type 0} (m : Pages) (pc : ℕ) (slot : Slot) (i : Instr) (r : Result A MemFault) → IfErr r (λ fault. bytes_from Write m pc 1 ≡ Err fault) → is_err r ≡ true → pc < 2 ^ 64
+    → instruction_at m pc ≡ Ok i → instr_of slot ≡ i → NamesRegisters i → IsTrueAt m pc slot
+kept_instruction m pc slot i r refused e small had same names =
     let fault : (fault : MemFault) × (bytes_from Write m pc 1 ≡ Err fault) = failure (bytes_from Write m pc 1) r refused e in
-    filled_true m pc i fault.0 had fault.1 small names
-
--- a slot of an address has the instruction there
-pub holds_kept : (m : Pages) (pc : ℕ) (slots : List Slot) (place : ℕ) (slot : Slot) → AreTrue m slots → place < length slots → slot ≡ get_or slots place slot → slot.pc ≡ pc → pc % 4 ≡ 0 → HoldsAt m pc slots place
-holds_kept m pc slots place slot h within read same multiple =
-    let kept : IsTrue m slot = subst (IsTrue m) (sym read) (All-get_or (IsTrue m) slots place slot within h) in
-    let fixed : IsFixedAt m slot.pc slot.instr = kept.fixed (ap (λ n. n % 4) same ∙ multiple) in
     record {
-      within = within;
-      instruction = λ d. ap (instruction_at m) (sym same) ∙ fixed.instruction ∙ ap (λ (s : Slot). Ok s.instr) (read ∙ get_or_default slots place slot d within);
+      registers = subst NamesRegisters (sym same) names;
+      fixed = λ full. subst (IsFixedAt m pc) (sym same) (fixed_by m pc i fault.0 had fault.1 small);
     }
 
--- a slot that was filled has the instruction
-pub holds_filled : (m : Pages) (pc : ℕ) (slots : List Slot) (place : ℕ) (slot : Slot) → place < length slots → instruction_at m pc ≡ Ok slot.instr → HoldsAt m pc (set slots place slot) place
-holds_filled m pc slots place slot within had =
-    let long = length-set slots place slot in
+-- an empty slot is true of every memory
+abbrev empty_slot : Slot
+empty_slot = record { op = op.Ebreak; rd = 0; rs1 = 0; rs2 = 0; imm = pos 0 }
+
+empty_true : (m : Pages) (pc : ℕ) (slot : Slot) → slot ≡ empty_slot → IsTrueAt m pc slot
+empty_true m pc slot e =
+    subst (IsTrueAt m pc) (sym e) (record { registers = (omega arith, omega arith, omega arith); fixed = λ full. absurd (full refl) })
+
+-- slots with no instruction
+pub all_empty : (m : Pages) (base : ℕ) (slots : List Slot) (n : ℕ) → base % 4 ≡ 0 → slots ≡ replicate n empty_slot → AreTrueFrom m base slots
+all_empty m base slots n multiple e =
+    let long : length slots ≡ n = ap length e ∙ length-replicate n empty_slot in
     record {
-      within = omega (arith, within, long);
-      instruction = λ d. had ∙ ap (λ (s : Slot). Ok s.instr) (sym (get_or-set_same slots place slot d within));
+      aligned = multiple;
+      each = λ place d within. empty_true m (address_at base place) (get_or slots place d)
+          (ap (λ xs. get_or xs place d) e ∙ get_or-replicate n place empty_slot d (omega (arith, within, long)));
     }
+
+each_set : (m : Pages) (base : ℕ) (slots : List Slot) (place : ℕ) (slot : Slot) → AreTrueFrom m base slots → IsTrueAt m (address_at base place) slot → place < length slots
+    → (k : ℕ) (d : Slot) → k < length slots → IsTrueAt m (address_at base k) (get_or (set slots place slot) k d)
+each_set m base slots place slot h kept within k d small =
+    elim (eqb_tells k place) [
+      | inl same ↦
+          subst (λ x. IsTrueAt m (address_at base x) (get_or (set slots place slot) x d)) (sym same.1)
+          (subst (IsTrueAt m (address_at base place)) (sym (get_or-set_same slots place slot d within)) kept)
+      | inr apart ↦ subst (IsTrueAt m (address_at base k)) (sym (get_or-set_other slots place k slot d apart.1)) (h.each k d small)
+    ]
 
 -- the slots with one filled
-pub all_filled : (m : Pages) (slots : List Slot) (place : ℕ) (slot : Slot) → AreTrue m slots → IsTrue m slot → AreTrue m (set slots place slot)
-all_filled m slots place slot h kept = All-set (IsTrue m) slots place slot kept h
+pub set_true : (m : Pages) (base : ℕ) (slots : List Slot) (place : ℕ) (slot : Slot) → AreTrueFrom m base slots → IsTrueAt m (address_at base place) slot → place < length slots → AreTrueFrom m base (set slots place slot)
+set_true m base slots place slot h kept within =
+    let long = length-set slots place slot in
+    record {
+      aligned = h.aligned;
+      each = λ k d small. each_set m base slots place slot h kept within k d (omega (arith, small, long));
+    }
 
 -- the instruction of a slot, which names registers
-pub holds_names : (m : Pages) (slots : List Slot) (place : ℕ) (slot : Slot) → AreTrue m slots → place < length slots → slot ≡ get_or slots place slot → NamesRegisters slot.instr
-holds_names m slots place slot h within read =
-    let kept : IsTrue m slot = subst (IsTrue m) (sym read) (All-get_or (IsTrue m) slots place slot within h) in kept.registers
+pub slot_true : (m : Pages) (base : ℕ) (slots : List Slot) (place : ℕ) (slot : Slot) → AreTrueFrom m base slots → place < length slots → slot ≡ get_or slots place slot → IsTrueAt m (address_at base place) slot
+slot_true m base slots place slot h within read = subst (IsTrueAt m (address_at base place)) (sym read) (h.each place slot within)
 
 -- the instruction that is next, decoded
 pub decoded : (m : Pages) (r : Registers) (held : Reservation) (pc : ℕ) (i : Instr) (step : Step) → r.pc ≡ pc → instruction_at m pc ≡ Ok i → execute_of i (machine r m held) ≡ step → step_of (machine r m held) ≡ step
 unfolding step_of
 decoded m r held pc i step same had e = ap (begun_of (machine r m held)) (ap (instruction_at m) same ∙ had) ∙ e
 
-pub none : (m : Pages) (r : Registers) (held : Reservation) (pc : ℕ) (why : Signal) → r.pc ≡ pc → instruction_at m pc ≡ Err why → step_of (machine r m held) ≡ step_trapped (machine r m held) why
-unfolding step_of
-none m r held pc why same had = ap (begun_of (machine r m held)) (ap (instruction_at m) same ∙ had)
+-- an empty slot's instruction traps
+traps : (i : Instr) (s : Machine) → i.op ≡ op.Ebreak → (execute_of i s).outcome ≡ outcome.Trap signal.Trap
+unfolding execute_of
+traps i s e = ap (λ o. (meaning_of (kind_of o) i s).outcome) e
+
+-- what a slot's instruction does is what the instruction at its place does, unless it traps
+pub step_at : (m : Pages) (base place : ℕ) (slot : Slot) (r : Registers) (held : Reservation) (o : Outcome) (t : Machine) → IsTrueAt m (address_at base place) slot → r.pc ≡ address_at base place
+    → execute_of (instr_of slot) (machine r m held) ≡ record { outcome = o; after = t } → (o ≡ outcome.Trap signal.Trap → ⊥) → step_of (machine r m held) ≡ record { outcome = o; after = t }
+step_at m base place slot r held o t kept same e n =
+    let fixed : IsFixedAt m (address_at base place) (instr_of slot) =
+    kept.fixed (λ empty. n (sym (ap (λ (u : Step). u.outcome) e) ∙ traps (instr_of slot) (machine r m held) empty)) in
+    decoded m r held (address_at base place) (instr_of slot) _ same fixed.instruction e
+
+-- what holds of what there is
+pub if_some : {A : Type 0} (P Q : A → Type 0) (o : Option A) → ((x : A) → P x → Q x) → IfSome o P → IfSome o Q
+if_some P Q None f h = h
+if_some P Q (Some x) f h = f x h
+
+-- regions with one more, if there was memory for it
+pub pushed_true : (m : Pages) (b : Bool) (regions : List Region) (region : Region) → AreTrue m regions → RegionIsTrue m region → AreTrue m (if b then regions ++ region ∷ [] else regions)
+pushed_true m true regions region h new = All-push (RegionIsTrue m) regions region h new
+pushed_true m false regions region h new = h

@@ -117,3 +117,7 @@ unfolding execute_of
 parts_unchanged i s o r m h e n =
     let same : machine r m h ≡ s = sym (ap (λ (u : Step). u.after) e) ∙ meaning_keeps (kind_of i.op) i s (λ d. n (sym (ap (λ (u : Step). u.outcome) e) ∙ d)) in
     (ap (λ (t : Machine). t.regs) same, ap (λ (t : Machine). t.memory) same, ap (λ (t : Machine). t.held) same)
+
+pub execute_unchanged : (i : Instr) (s : Machine) (o : Outcome) (t : Machine) → execute_of i s ≡ record { outcome = o; after = t } → (o ≡ outcome.Done → ⊥) → t ≡ s
+unfolding execute_of
+execute_unchanged i s o t e n = sym (ap (λ (u : Step). u.after) e) ∙ meaning_keeps (kind_of i.op) i s (λ d. n (sym (ap (λ (u : Step). u.outcome) e) ∙ d))

@@ -1,8 +1,9 @@
 -- Laws of turns.
---     does-none, does-more      no instruction, and one more
+--     does-none, does-more, does-both      no instruction, one more, and some and then others
+--     does-within, does-one-within      the same, by how many of a turn are left
 --     only, is_turn      a turn is `turn_of`, and the other way round
---     stopped, finished      how a turn ends
-use Rattle.std.proofs.Common.{◌≡◌, ℕ, zero, suc, ◌<◌, Some, refl, sym, ap, subst, ◌∙◌, arith}
+--     stopped, finished, stopped-within, finished-within      how a turn ends
+use Rattle.std.proofs.Common.{◌≡◌, ℕ, zero, suc, ◌+◌, ◌-◌, ◌<◌, ◌≤◌, Some, refl, sym, ap, subst, ◌∙◌, arith}
 use Rattle.rv_interp.specs.declared.execution.Outcome.{Outcome}
 use Rattle.rv_interp.specs.declared.execution.Outcome.TheVariants as outcome
 use Rattle.rv_interp.specs.declared.turns.TurnEnd.{TurnEnd}
@@ -22,6 +23,26 @@ pub does-more : (n : ℕ) (s t u : Machine) → Does n s t → step_of t ≡ rec
 unfolding Does
 does-more zero s t u d e = (u, ap step_of d ∙ e, refl)
 does-more (suc n) s t u d e = (d.0, d.1, does-more n d.0 t u d.2 e)
+
+pub does-both : (a b : ℕ) (s t u : Machine) → Does a s t → Does b t u → Does (a + b) s u
+unfolding Does
+does-both zero b s t u d e =
+    let count : b ≡ 0 + b = omega arith in
+    subst (λ n. Does n s u) count (subst (λ x. Does b x u) (sym d) e)
+does-both (suc a) b s t u d e =
+    let count : suc (a + b) ≡ suc a + b = omega arith in
+    subst (λ n. Does n s u) count (let more : Does (suc (a + b)) s u = (d.0, d.1, does-both a b d.0 t u d.2 e) in more)
+
+-- of a turn's instructions so many are left, after some more
+pub does-within : (left k : ℕ) (s t u : Machine) → Does (4096 - left) s t → Does k t u → k ≤ left → left ≤ 4096 → Does (4096 - (left - k)) s u
+does-within left k s t u d e h w =
+    let count : 4096 - left + k ≡ 4096 - (left - k) = omega (arith, h, w) in
+    subst (λ n. Does n s u) count (does-both (4096 - left) k s t u d e)
+
+pub does-one-within : (left : ℕ) (s t u : Machine) → Does (4096 - left) s t → step_of t ≡ record { outcome = outcome.Done; after = u } → 0 < left → left ≤ 4096 → Does (4096 - (left - 1)) s u
+does-one-within left s t u d e h w =
+    let count : suc (4096 - left) ≡ 4096 - (left - 1) = omega (arith, h, w) in
+    subst (λ n. Does n s u) count (does-more (4096 - left) s t u d e)
 
 does_all : (n : ℕ) (s t : Machine) → Does n s t → turn_within n s ≡ record { end = turn_end.Quantum; after = t }
 unfolding Does turn_within
@@ -113,3 +134,11 @@ stopped n s t u end o f d h e =
 -- a turn of as many instructions as a turn may have
 pub finished : (n : ℕ) (s t : Machine) → n ≡ 4096 → Does n s t → IsTurn s turn_end.Quantum t
 finished n s t e d = record { quantum = λ q. subst (λ k. Does k s t) e d; stops = λ o f. absurd (cc) }
+
+-- the same, by how many instructions of the turn were left, of which some more were done
+pub stopped-within : (left k : ℕ) (s t u v : Machine) (end : TurnEnd) (o : Outcome) → stop_of end ≡ Some o → Does (4096 - left) s t → Does k t u → k < left → left ≤ 4096
+    → step_of u ≡ record { outcome = o; after = v } → IsTurn s end v
+stopped-within left k s t u v end o f d e h w stop = stopped (4096 - left + k) s u v end o f (does-both (4096 - left) k s t u d e) (omega (arith, h, w)) stop
+
+pub finished-within : (left k : ℕ) (s t u : Machine) → Does (4096 - left) s t → Does k t u → left - k ≡ 0 → k ≤ left → left ≤ 4096 → IsTurn s turn_end.Quantum u
+finished-within left k s t u d e none h w = finished (4096 - left + k) s u (omega (arith, none, h, w)) (does-both (4096 - left) k s t u d e)

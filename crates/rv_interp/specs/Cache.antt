@@ -5,9 +5,12 @@ use Rattle.std.specs.List.{All}
 use Rattle.abi_base.specs.declared.address_space.TheConstants.{PAGE_SIZE}
 use Rattle.guest_memory.specs.Page.{Page, Pages}
 use Rattle.rv_code.specs.declared.instr.Instr.{Instr}
+use Rattle.rv_code.specs.declared.instr.Op.TheVariants as op
 use Rattle.rv_code.specs.Formats.{NamesRegisters}
-use Rattle.rv_interp.specs.declared.cache.Slot.{Slot}
+use Rattle.rv_interp.specs.declared.regions.Region.{Region}
+use Rattle.rv_interp.specs.declared.slot.Slot.{Slot}
 use Rattle.rv_interp.specs.Instructions.{instruction_at}
+use Rattle.rv_interp.specs.Slots.{address_at, instr_of}
 
 -- the instruction at an address of a page that can't be written
 pub record IsFixedAt (m : Pages) (pc : ℕ) (i : Instr) : Type 0 where
@@ -17,16 +20,24 @@ pub record IsFixedAt (m : Pages) (pc : ℕ) (i : Instr) : Type 0 where
   pub unwritable : page.prot.write ≡ false
   pub instruction : instruction_at m pc ≡ Ok i
 
--- a slot names registers and, where its address may be an instruction's, has the instruction there
-pub record IsTrue (m : Pages) (slot : Slot) : Type 0 where
-  pub registers : NamesRegisters slot.instr
-  pub fixed : slot.pc % 4 ≡ 0 → IsFixedAt m slot.pc slot.instr
+-- a slot names registers and, unless it is empty, has the instruction that is at the address of its place
+pub record IsTrueAt (m : Pages) (pc : ℕ) (slot : Slot) : Type 0 where
+  pub registers : NamesRegisters (instr_of slot)
+  pub fixed : (slot.op ≡ op.Ebreak → ⊥) → IsFixedAt m pc (instr_of slot)
+
+-- each slot of those from an address on is true of this memory
+pub record AreTrueFrom (m : Pages) (base : ℕ) (slots : List Slot) : Type 0 where
+  pub aligned : base % 4 ≡ 0
+  pub each : (place : ℕ) (d : Slot) → place < length slots → IsTrueAt m (address_at base place) (get_or slots place d)
+
+abbrev pub RegionIsTrue : Pages → Region → Type 0
+RegionIsTrue m region = AreTrueFrom m region.base region.slots.items
 
 -- each slot is true of this memory
-abbrev pub AreTrue : Pages → List Slot → Type 0
-AreTrue m slots = All (IsTrue m) slots
+abbrev pub AreTrue : Pages → List Region → Type 0
+AreTrue m regions = All (RegionIsTrue m) regions
 
--- the slot at a place has the instruction that is at an address
-pub record HoldsAt (m : Pages) (pc : ℕ) (slots : List Slot) (place : ℕ) : Type 0 where
-  pub within : place < length slots
-  pub instruction : (d : Slot) → instruction_at m pc ≡ Ok (get_or slots place d).instr
+-- an address may be that of an instruction of this region
+pub record IsPlaced (pc k : ℕ) (regions : List Region) : Type 0 where
+  pub within : k < length regions
+  pub aligned : pc % 4 ≡ 0

@@ -3,4 +3,5 @@ pub mod Kinds
 pub mod Values
 pub mod Instructions
 pub mod Turns
+pub mod Slots
 pub mod Cache

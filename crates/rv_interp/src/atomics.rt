@@ -8,12 +8,14 @@ ghost use Rattle.guest_memory.specs.Written.{KeepsUnwritable};
 ghost use Rattle.rv_code.specs.Formats.{NamesRegisters};
 ghost use Rattle.rv_interp.specs.Kinds.{width_of};
 ghost use Rattle.rv_interp.specs.Machine.{machine, holds};
+ghost use Rattle.rv_interp.specs.Slots.{address_at, instr_of};
 ghost use Rattle.rv_interp.specs.Instructions.{atomic_step, exchange_of, reserve_step, conditional_step, conditional_of, register};
 ghost use Rattle.guest_memory.specs.Words.{load_of, store_of};
 
 use crate::execution::Outcome;
-use crate::jumps::done;
+use crate::places::{address_at, done_at};
 use crate::reservation::Reservation;
+use crate::slot::Slot;
 use crate::values::{AtomicOperation, atomic_value, loaded_value};
 use crate::width::width;
 use abi_base::{Regs, Signal};
@@ -23,43 +25,46 @@ use rv_code::Instr;
 // Reads a number and writes another in its place, at a multiple of the width.
 fn exchange(
     regs: &mut Regs,
-    pc: &mut u64,
+    base: u64,
+    at: &mut u64,
     mem: &mut GuestMemory,
     instr: &Instr,
     operation: AtomicOperation,
-    at: u64,
+    to: u64,
 ) -> Outcome
     requires { NamesRegisters instr.now }
-    ensures exact { exchange_of (with_pc regs.old pc.old) mem.old operation instr.now at (load_of mem.old at (width_of instr.now.op)) ≡ record { outcome = result; regs = with_pc regs.new pc.new; memory = mem.new } }
+    ensures exact { exchange_of (with_pc regs.old (address_at base at.old)) mem.old operation instr.now to (load_of mem.old to (width_of instr.now.op)) ≡ record { outcome = result; regs = with_pc regs.new (address_at base at.new); memory = mem.new } }
     ensures unwritable { KeepsUnwritable mem.old mem.new }
 {
     let width = width(instr.op);
-    let Ok(v) = mem.load(at, width) else {
+    let Ok(v) = mem.load(to, width) else {
         return Outcome::Trap(Signal::Segv);
     };
     let value = atomic_value(width, operation, v, regs.get(instr.rs2));
-    match mem.store(at, width, value) {
-        Ok(()) => done(regs, pc, instr.rd, loaded_value(instr.op, v)),
+    match mem.store(to, width, value) {
+        Ok(()) => done_at(regs, base, at, instr.rd as u8, loaded_value(instr.op, v)),
         Err(_) => Outcome::Trap(Signal::Segv),
     }
 }
 
 // AMO.
+#[cold]
 #[inline(never)]
 fn exchange_aligned(
     regs: &mut Regs,
-    pc: &mut u64,
+    base: u64,
+    at: &mut u64,
     mem: &mut GuestMemory,
     instr: &Instr,
     operation: AtomicOperation,
 ) -> Outcome
     requires { NamesRegisters instr.now }
-    ensures exact { atomic_step (with_pc regs.old pc.old) mem.old operation instr.now ≡ record { outcome = result; regs = with_pc regs.new pc.new; memory = mem.new } }
+    ensures exact { atomic_step (with_pc regs.old (address_at base at.old)) mem.old operation instr.now ≡ record { outcome = result; regs = with_pc regs.new (address_at base at.new); memory = mem.new } }
     ensures unwritable { KeepsUnwritable mem.old mem.new }
 {
-    let at = regs.get(instr.rs1);
-    if at % u64::from(width(instr.op)) == 0 {
-        exchange(regs, pc, mem, instr, operation, at)
+    let to = regs.get(instr.rs1);
+    if to % u64::from(width(instr.op)) == 0 {
+        exchange(regs, base, at, mem, instr, operation, to)
     } else {
         Outcome::Trap(Signal::Bus)
     }
@@ -67,6 +72,7 @@ fn exchange_aligned(
 
 /// AMO. Its operation is passed beside it, for words and double words alike.
 #[inline(always)]
+#[tactic(auto, using(crate::proofs::PlaceLaws::first_place))]
 pub fn atomic(
     regs: &mut Regs,
     pc: &mut u64,
@@ -78,39 +84,62 @@ pub fn atomic(
     ensures exact { atomic_step (with_pc regs.old pc.old) mem.old operation instr.now ≡ record { outcome = result; regs = with_pc regs.new pc.new; memory = mem.new } }
     ensures unwritable { KeepsUnwritable mem.old mem.new }
 {
-    let mut next = *pc;
-    let outcome = exchange_aligned(regs, &mut next, mem, instr, operation);
-    *pc = next;
+    let mut at = 0;
+    let outcome = exchange_aligned(regs, *pc, &mut at, mem, instr, operation);
+    *pc = address_at(*pc, at);
+    outcome
+}
+
+/// AMO of a slot, at a place of code.
+#[inline(always)]
+pub fn atomic_at(
+    regs: &mut Regs,
+    base: u64,
+    at: &mut u64,
+    mem: &mut GuestMemory,
+    slot: &Slot,
+    operation: AtomicOperation,
+) -> Outcome
+    requires { NamesRegisters (instr_of slot.now) }
+    ensures exact { atomic_step (with_pc regs.old (address_at base at.old)) mem.old operation (instr_of slot.now) ≡ record { outcome = result; regs = with_pc regs.new (address_at base at.new); memory = mem.new } }
+    ensures unwritable { KeepsUnwritable mem.old mem.new }
+{
+    let mut next = *at;
+    let outcome = exchange_aligned(regs, base, &mut next, mem, &slot.instr(), operation);
+    *at = next;
     outcome
 }
 
 // LR.
+#[cold]
 #[inline(never)]
 fn reserve(
     regs: &mut Regs,
-    pc: &mut u64,
+    base: u64,
+    at: &mut u64,
     mem: &mut GuestMemory,
     held: &mut Reservation,
     instr: &Instr,
 ) -> Outcome
     requires { NamesRegisters instr.now }
-    ensures exact { reserve_step (machine (with_pc regs.old pc.old) mem.old held.old) instr.now ≡ record { outcome = result; after = machine (with_pc regs.new pc.new) mem.new held.new } }
+    ensures exact { reserve_step (machine (with_pc regs.old (address_at base at.old)) mem.old held.old) instr.now ≡ record { outcome = result; after = machine (with_pc regs.new (address_at base at.new)) mem.new held.new } }
     ensures same { mem.new ≡ mem.old }
 {
-    let at = regs.get(instr.rs1);
+    let to = regs.get(instr.rs1);
     let width = width(instr.op);
-    if at % u64::from(width) != 0 {
+    if to % u64::from(width) != 0 {
         return Outcome::Trap(Signal::Bus);
     }
-    let Ok(v) = mem.load(at, width) else {
+    let Ok(v) = mem.load(to, width) else {
         return Outcome::Trap(Signal::Segv);
     };
-    held.held = Some((at, width));
-    done(regs, pc, instr.rd, loaded_value(instr.op, v))
+    held.held = Some((to, width));
+    done_at(regs, base, at, instr.rd as u8, loaded_value(instr.op, v))
 }
 
 /// LR.
 #[inline(always)]
+#[tactic(auto, using(crate::proofs::PlaceLaws::first_place))]
 pub fn load_reserved(
     regs: &mut Regs,
     pc: &mut u64,
@@ -122,57 +151,80 @@ pub fn load_reserved(
     ensures exact { reserve_step (machine (with_pc regs.old pc.old) mem.old held.old) instr.now ≡ record { outcome = result; after = machine (with_pc regs.new pc.new) mem.new held.new } }
     ensures same { mem.new ≡ mem.old }
 {
-    let mut next = *pc;
-    let outcome = reserve(regs, &mut next, mem, held, instr);
-    *pc = next;
+    let mut at = 0;
+    let outcome = reserve(regs, *pc, &mut at, mem, held, instr);
+    *pc = address_at(*pc, at);
+    outcome
+}
+
+/// LR of a slot, at a place of code.
+#[inline(always)]
+pub fn load_reserved_at(
+    regs: &mut Regs,
+    base: u64,
+    at: &mut u64,
+    mem: &mut GuestMemory,
+    held: &mut Reservation,
+    slot: &Slot,
+) -> Outcome
+    requires { NamesRegisters (instr_of slot.now) }
+    ensures exact { reserve_step (machine (with_pc regs.old (address_at base at.old)) mem.old held.old) (instr_of slot.now) ≡ record { outcome = result; after = machine (with_pc regs.new (address_at base at.new)) mem.new held.new } }
+    ensures same { mem.new ≡ mem.old }
+{
+    let mut next = *at;
+    let outcome = reserve(regs, base, &mut next, mem, held, &slot.instr());
+    *at = next;
     outcome
 }
 
 // Stores where the address and the width are reserved, and else looks whether it might have, at a multiple of the width.
 fn store_reserved(
     regs: &mut Regs,
-    pc: &mut u64,
+    base: u64,
+    at: &mut u64,
     mem: &mut GuestMemory,
     held: &mut Reservation,
     instr: &Instr,
-    at: u64,
+    to: u64,
 ) -> Outcome
     requires { NamesRegisters instr.now }
-    ensures exact { conditional_of (machine (with_pc regs.old pc.old) mem.old held.old) instr.now at (store_of mem.old at (width_of instr.now.op) (register regs.old instr.now.rs2)) ≡ record { outcome = result; after = machine (with_pc regs.new pc.new) mem.new held.new } }
+    ensures exact { conditional_of (machine (with_pc regs.old (address_at base at.old)) mem.old held.old) instr.now to (store_of mem.old to (width_of instr.now.op) (register regs.old instr.now.rs2)) ≡ record { outcome = result; after = machine (with_pc regs.new (address_at base at.new)) mem.new held.new } }
     ensures unwritable { KeepsUnwritable mem.old mem.new }
 {
     let width = width(instr.op);
-    let holds = held.holds(at, width);
+    let holds = held.holds(to, width);
     let may_store = if holds {
-        mem.store(at, width, regs.get(instr.rs2))
+        mem.store(to, width, regs.get(instr.rs2))
     } else {
-        mem.check(Access::Write, at, width as usize)
+        mem.check(Access::Write, to, width as usize)
     };
     match may_store {
         Ok(()) => {
             *held = Reservation::none();
-            done(regs, pc, instr.rd, u64::from(!holds))
+            done_at(regs, base, at, instr.rd as u8, u64::from(!holds))
         }
         Err(_) => Outcome::Trap(Signal::Segv),
     }
 }
 
 // SC.
+#[cold]
 #[inline(never)]
 fn store_aligned(
     regs: &mut Regs,
-    pc: &mut u64,
+    base: u64,
+    at: &mut u64,
     mem: &mut GuestMemory,
     held: &mut Reservation,
     instr: &Instr,
 ) -> Outcome
     requires { NamesRegisters instr.now }
-    ensures exact { conditional_step (machine (with_pc regs.old pc.old) mem.old held.old) instr.now ≡ record { outcome = result; after = machine (with_pc regs.new pc.new) mem.new held.new } }
+    ensures exact { conditional_step (machine (with_pc regs.old (address_at base at.old)) mem.old held.old) instr.now ≡ record { outcome = result; after = machine (with_pc regs.new (address_at base at.new)) mem.new held.new } }
     ensures unwritable { KeepsUnwritable mem.old mem.new }
 {
-    let at = regs.get(instr.rs1);
-    if at % u64::from(width(instr.op)) == 0 {
-        store_reserved(regs, pc, mem, held, instr, at)
+    let to = regs.get(instr.rs1);
+    if to % u64::from(width(instr.op)) == 0 {
+        store_reserved(regs, base, at, mem, held, instr, to)
     } else {
         Outcome::Trap(Signal::Bus)
     }
@@ -180,6 +232,7 @@ fn store_aligned(
 
 /// SC.
 #[inline(always)]
+#[tactic(auto, using(crate::proofs::PlaceLaws::first_place))]
 pub fn store_conditional(
     regs: &mut Regs,
     pc: &mut u64,
@@ -191,8 +244,28 @@ pub fn store_conditional(
     ensures exact { conditional_step (machine (with_pc regs.old pc.old) mem.old held.old) instr.now ≡ record { outcome = result; after = machine (with_pc regs.new pc.new) mem.new held.new } }
     ensures unwritable { KeepsUnwritable mem.old mem.new }
 {
-    let mut next = *pc;
-    let outcome = store_aligned(regs, &mut next, mem, held, instr);
-    *pc = next;
+    let mut at = 0;
+    let outcome = store_aligned(regs, *pc, &mut at, mem, held, instr);
+    *pc = address_at(*pc, at);
+    outcome
+}
+
+/// SC of a slot, at a place of code.
+#[inline(always)]
+pub fn store_conditional_at(
+    regs: &mut Regs,
+    base: u64,
+    at: &mut u64,
+    mem: &mut GuestMemory,
+    held: &mut Reservation,
+    slot: &Slot,
+) -> Outcome
+    requires { NamesRegisters (instr_of slot.now) }
+    ensures exact { conditional_step (machine (with_pc regs.old (address_at base at.old)) mem.old held.old) (instr_of slot.now) ≡ record { outcome = result; after = machine (with_pc regs.new (address_at base at.new)) mem.new held.new } }
+    ensures unwritable { KeepsUnwritable mem.old mem.new }
+{
+    let mut next = *at;
+    let outcome = store_aligned(regs, base, &mut next, mem, held, &slot.instr());
+    *at = next;
     outcome
 }

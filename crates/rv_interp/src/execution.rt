@@ -61,8 +61,9 @@ pub fn step(regs: &mut Regs, mem: &mut GuestMemory, held: &mut Reservation) -> O
 
 // ECALL and EBREAK. It is called and not inlined: where an arm of `execute` only gave a constant, that constant would be
 // set before each instruction.
+#[cold]
 #[inline(never)]
-fn environment(instr: &Instr) -> Outcome
+pub fn environment(instr: &Instr) -> Outcome
     ensures ecall { instr.now.op ≡ Op.Ecall → result ≡ Outcome.Ecall }
     ensures ebreak { instr.now.op ≡ Op.Ebreak → result ≡ Outcome.Trap Signal.Trap }
 {
@@ -74,7 +75,7 @@ fn environment(instr: &Instr) -> Outcome
 }
 
 /// Does a decoded instruction, which is at the pc that is passed beside the registers. It is one match over all operations,
-/// and is inlined into `Cache::step` with what its arms call.
+/// and is inlined into `step` with what its arms call.
 #[inline(always)]
 #[tactic(auto, unfolding(crate::specs::Instructions::execute_of))]
 pub fn execute(

@@ -9,11 +9,16 @@ pub use turns::{QUANTUM, TurnEnd, turn, turn_is_one};
 
 mod atomics;
 mod cache;
+mod code_pages;
 mod execution;
 mod jumps;
+mod kept;
 mod loads;
 mod operations;
+mod places;
+mod regions;
 mod reservation;
+mod slot;
 mod turns;
 mod values;
 mod width;

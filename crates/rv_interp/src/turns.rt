@@ -1,6 +1,5 @@
 //! A turn of instructions.
 ghost use Rattle.std.specs.Prelude.{◌≡◌};
-ghost use Rattle.abi_base.specs.Registers.{with_pc};
 ghost use Rattle.rv_interp.specs.Cache.{AreTrue};
 ghost use Rattle.rv_interp.specs.Turns.{Turns, TurnIsOne, TurnOfIsTurn, turn_of};
 
@@ -32,24 +31,24 @@ pub fn turn(regs: &mut Regs, mem: &mut GuestMemory, cache: &mut Cache) -> TurnEn
     ensures turns { Turns mem.old regs.old result mem.new regs.new }
     ensures slots { AreTrue mem.new cache.new }
 {
-    cache.widen();
-    let mut pc = regs.pc();
-    let end = run(regs, &mut pc, mem, cache);
-    regs.set_pc(pc);
-    end
-}
-
-// A turn whose pc is beside the registers.
-#[inline(always)]
-fn run(regs: &mut Regs, pc: &mut u64, mem: &mut GuestMemory, cache: &mut Cache) -> TurnEnd
-    requires { AreTrue mem.old cache.old }
-    ensures turns { Turns mem.old (with_pc regs.old pc.old) result mem.new (with_pc regs.new pc.new) }
-    ensures slots { AreTrue mem.new cache.new }
-{
     let mut held = Reservation::none();
+    let mut left = QUANTUM;
+    // Each round does one instruction at least.
     for _ in 0..QUANTUM {
-        match cache.step(regs, pc, mem, &mut held) {
-            Outcome::Done => {}
+        let kept = cache.run(regs, mem, &mut held, left);
+        left -= kept.done;
+        if kept.is_call {
+            return TurnEnd::Ecall;
+        }
+        if left == 0 {
+            return TurnEnd::Quantum;
+        }
+        // Instructions that are kept may go on in another region.
+        if kept.done > 0 {
+            continue;
+        }
+        match cache.step(regs, mem, &mut held) {
+            Outcome::Done => left -= 1,
             Outcome::Ecall => return TurnEnd::Ecall,
             Outcome::Trap(signal) => return TurnEnd::Trap(signal),
         }

@@ -9,6 +9,9 @@ returns-clause-ledger c = traces.held_is_traced
 pub returns-clause-held : goal.returns-clause-held
 returns-clause-held c = traces.traced_is_held
 
+pub returns-clause-handed : goal.returns-clause-handed
+returns-clause-handed c = traces.traced_is_handed_on
+
 pub returns-clause-rights : goal.returns-clause-rights
 returns-clause-rights c = traces.traced_is_within_root
 

@@ -1,0 +1,208 @@
+//! Runs of pages of code, each instruction of which has a slot by its place.
+ghost use Rattle.std.specs.Prelude.{◌≡◌, ◌<◌, ◌≤◌, ◌%◌, ℕ, length, IfOk, IfSome, IsTrue};
+ghost use Rattle.abi_base.specs.Registers.{with_pc};
+ghost use Rattle.guest_memory.specs.Page.{Pages};
+ghost use Rattle.guest_memory.specs.Written.{KeepsUnwritable};
+ghost use Rattle.rv_interp.specs.declared.execution.Outcome.TheVariants as outcome;
+ghost use Rattle.rv_interp.specs.Cache.{AreTrueFrom, IsTrueAt, RegionIsTrue};
+ghost use Rattle.rv_interp.specs.Instructions.{step_of};
+ghost use Rattle.rv_interp.specs.Machine.{machine};
+ghost use Rattle.rv_interp.specs.Slots.{address_at};
+ghost use Rattle.rv_interp.specs.Turns.{Does};
+
+use crate::execution::{Outcome, instruction};
+use crate::kept::execute_at;
+use crate::places::{address_at, place_of};
+use crate::reservation::Reservation;
+use crate::slot::{EMPTY, Slot, packed};
+use abi_base::{PAGE_SIZE, Regs};
+use guest_memory::{Access, GuestMemory};
+use std::alloc::{AllocError, Global};
+
+// How many instructions are decoded at once, at most. More would make straight code begin faster, and jumps to where all are new
+// slower.
+const DECODED_AT_ONCE: u64 = 8;
+
+/// Slots of the instructions from an address on, one for each 4 bytes. A slot is empty as long as its instruction wasn't needed, and
+/// where its page may be written.
+#[derive(Drop)]
+pub struct Region {
+    pub base: u64,
+    pub slots: Vec<Slot>,
+}
+
+/// What kept instructions did.
+#[derive(Clone, Copy)]
+pub struct Kept {
+    /// How many were done.
+    pub done: u32,
+    /// Whether the next one is an ECALL. If it isn't, it is not said what it is.
+    pub is_call: bool,
+}
+
+/// Where instructions of slots came to an end: the same, and the place of the instruction that is next.
+#[derive(Clone, Copy)]
+pub struct Stop {
+    pub done: u32,
+    pub at: u64,
+    pub is_call: bool,
+}
+
+// The slot at a place.
+#[inline(always)]
+fn slot_at(slots: &[Slot], place: u64) -> &Slot
+    requires { place < length slots.now }
+    ensures { (m : Pages) (base : ℕ) → AreTrueFrom m base slots.now → IsTrueAt m (address_at base place) result.now }
+{
+    &slots[place as usize]
+}
+
+// Does instructions of slots from a place on: at most so many, and as long as they have slots.
+#[inline(never)]
+fn run_slots(
+    regs: &mut Regs,
+    base: u64,
+    at: u64,
+    mem: &mut GuestMemory,
+    held: &mut Reservation,
+    slots: &[Slot],
+    most: u32,
+) -> Stop
+    requires { AreTrueFrom mem.old base slots.now }
+    ensures few { result.done ≤ most }
+    ensures done { Does result.done (machine (with_pc regs.old (address_at base at)) mem.old held.old) (machine (with_pc regs.new (address_at base result.at)) mem.new held.new) }
+    ensures more { IsTrue result.is_call → result.done < most }
+    ensures call { IsTrue result.is_call → step_of (machine (with_pc regs.new (address_at base result.at)) mem.new held.new) ≡ record { outcome = outcome.Ecall; after = machine (with_pc regs.new (address_at base result.at)) mem.new held.new } }
+    ensures unwritable { KeepsUnwritable mem.old mem.new }
+{
+    let mut place = at;
+    for done in 0..most {
+        if place >= slots.len() as u64 {
+            return Stop {
+                done,
+                at: place,
+                is_call: false,
+            };
+        }
+        let slot = slot_at(slots, place);
+        match execute_at(regs, base, &mut place, mem, held, slot) {
+            Outcome::Done => {}
+            Outcome::Ecall => {
+                return Stop {
+                    done,
+                    at: place,
+                    is_call: true,
+                };
+            }
+            Outcome::Trap(_) => {
+                return Stop {
+                    done,
+                    at: place,
+                    is_call: false,
+                };
+            }
+        }
+    }
+    Stop {
+        done: most,
+        at: place,
+        is_call: false,
+    }
+}
+
+// The slot of the instruction at an address, if its page can't be written.
+fn kept_slot(mem: &mut GuestMemory, pc: u64) -> Option<Slot>
+    ensures slot { IfSome result (IsTrueAt mem.old pc) }
+    ensures same { mem.new ≡ mem.old }
+{
+    let Ok(instr) = instruction(mem, pc) else {
+        return None;
+    };
+    if mem.check(Access::Write, pc, 1).is_err() {
+        packed(&instr)
+    } else {
+        None
+    }
+}
+
+// Fills the slot at a place.
+fn put(slots: &mut Vec<Slot>, at: u64, slot: Slot)
+    requires { at < length slots.old.items }
+    ensures { (m : Pages) (base : ℕ) → AreTrueFrom m base slots.old.items → IsTrueAt m (address_at base at) slot → AreTrueFrom m base slots.new.items }
+{
+    slots[at as usize] = slot;
+}
+
+impl Region {
+    /// Empty slots from a page on.
+    pub fn new(alloc: Global, page: u64, count: usize) -> Result<Self, AllocError>
+        ensures { IfOk result (λ region. (m : Pages) → RegionIsTrue m region) }
+    {
+        let slots = vec![in alloc; EMPTY; count]?;
+        Ok(Region {
+            base: page.wrapping_mul(PAGE_SIZE),
+            slots,
+        })
+    }
+
+    /// Whether an instruction at an address has a slot here.
+    pub fn has(&self, pc: u64) -> bool {
+        pc.wrapping_sub(self.base) / 4 < self.slots.len() as u64
+    }
+
+    /// Does instructions that are kept here, from the pc on: at most so many.
+    pub fn run(
+        &self,
+        regs: &mut Regs,
+        mem: &mut GuestMemory,
+        held: &mut Reservation,
+        most: u32,
+    ) -> Kept
+        requires slots { RegionIsTrue mem.old self.now }
+        requires aligned { regs.old.pc % 4 ≡ 0 }
+        ensures few { result.done ≤ most }
+        ensures done { Does result.done (machine regs.old mem.old held.old) (machine regs.new mem.new held.new) }
+        ensures more { IsTrue result.is_call → result.done < most }
+        ensures call { IsTrue result.is_call → step_of (machine regs.new mem.new held.new) ≡ record { outcome = outcome.Ecall; after = machine regs.new mem.new held.new } }
+        ensures unwritable { KeepsUnwritable mem.old mem.new }
+    {
+        let pc = regs.pc();
+        let at = place_of(self.base, pc);
+        let stop = run_slots(regs, self.base, at, mem, held, &self.slots, most);
+        let next = address_at(self.base, stop.at);
+        regs.set_pc(next);
+        Kept {
+            done: stop.done,
+            is_call: stop.is_call,
+        }
+    }
+
+    // Decodes the instruction at a place into its slot, if that is empty and the page can't be written. Says whether it did.
+    fn decode(&mut self, mem: &mut GuestMemory, at: u64) -> bool
+        ensures slots { RegionIsTrue mem.old self.old → RegionIsTrue mem.new self.new }
+        ensures same { mem.new ≡ mem.old }
+    {
+        if at >= self.slots.len() as u64 || self.slots[at as usize].op != EMPTY.op {
+            return false;
+        }
+        let Some(slot) = kept_slot(mem, address_at(self.base, at)) else {
+            return false;
+        };
+        put(&mut self.slots, at, slot);
+        true
+    }
+
+    /// Decodes the instruction at an address into its slot, if its page can't be written, and some of those behind it, up to the first
+    /// that is there.
+    pub fn decode_from(&mut self, mem: &mut GuestMemory, pc: u64)
+        ensures slots { RegionIsTrue mem.old self.old → RegionIsTrue mem.new self.new }
+        ensures same { mem.new ≡ mem.old }
+    {
+        let first = pc.wrapping_sub(self.base) / 4;
+        for index in 0..DECODED_AT_ONCE {
+            if !self.decode(mem, first.wrapping_add(index)) {
+                return;
+            }
+        }
+    }
+}
