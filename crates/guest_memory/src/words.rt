@@ -1,5 +1,5 @@
 //! Numbers of a memory, little-endian.
-ghost use Rattle.std.specs.Prelude.{◌≡◌, ◌<◌, ◌≤◌, ◌^◌, ◌+◌, ◌/◌, ◌%◌, length, take, IfErr, IfOk, IsFalse, IsTrue, OnErr, OnOk, Ok, Err};
+ghost use Rattle.std.specs.Prelude.{◌≡◌, ◌<◌, ◌≤◌, ◌^◌, ◌+◌, ◌/◌, ◌%◌, length, take, IfErr, IfOk, IfSome, IsFalse, IsTrue, OnErr, OnOk, Ok, Err};
 ghost use Rattle.guest_memory.specs.Bytes.{bytes_from};
 ghost use Rattle.guest_memory.specs.Words.{IsWidth, bytes_of, number_of, number_in, load_of, store_of, fetch_of};
 ghost use Rattle.guest_memory.specs.Written.{KeepsUnwritable};
@@ -12,24 +12,37 @@ use abi_base::PAGE_SIZE;
 impl GuestMemory {
     /// The number of the `n` bytes at an address, little-endian; `n` is 1, 2, 4 or 8. Each byte's page must be there
     /// with the right READ; else the fault names the first byte that fails. Every page stays as it is.
-    #[inline(always)]
+    #[inline]
     pub fn load(&mut self, at: u64, n: u32) -> Result<u64, MemFault>
         requires { IsWidth n }
         ensures exact { result ≡ load_of self.old at n }
         ensures small { IfOk result (λ v. v < 256 ^ n) }
         ensures same { self.new ≡ self.old }
     {
-        if let Some(run) = self.hinted_run(Access::Read, at) {
-            if run.len() >= n as usize {
-                return Ok(number_in_run(run, n));
-            }
+        match self.load_by_hint(at, n) {
+            Some(v) => Ok(v),
+            None => self.load_anywhere(Access::Read, at, n),
         }
-        self.load_anywhere(Access::Read, at, n)
+    }
+
+    /// The number of the `n` bytes at an address, little-endian, where they lie in one page, the page's hint leads to it and it may be
+    /// read. `None` says nothing. A program's loads try it first, since no fault has to be handed back.
+    #[inline(always)]
+    pub fn load_by_hint(&self, at: u64, n: u32) -> Option<u64>
+        requires { IsWidth n }
+        ensures exact { IfSome result (λ v. load_of self.now at n ≡ Ok v) }
+        ensures small { IfSome result (λ v. v < 256 ^ n) }
+    {
+        let run = self.hinted_run(Access::Read, at)?;
+        if run.len() < n as usize {
+            return None;
+        }
+        Some(number_in_run(run, n))
     }
 
     /// Writes the `n` lowest bytes of a number to an address, little-endian; `n` is 1, 2, 4 or 8. Each byte's page must
     /// be there with the right WRITE; else the fault names the first byte that fails, and nothing is written.
-    #[inline(always)]
+    #[inline]
     pub fn store(&mut self, at: u64, n: u32, v: u64) -> Result<(), MemFault>
         requires { IsWidth n }
         ensures ok { OnOk result (store_of self.old at n v ≡ Ok self.new) }
@@ -43,10 +56,10 @@ impl GuestMemory {
         self.store_anywhere(at, n, v)
     }
 
-    // Writes the `n` lowest bytes of a number to an address, where they lie in one page, the page's hint leads to it and
-    // it may be written. `false` says nothing but that all is as before.
+    /// Writes the `n` lowest bytes of a number to an address, where they lie in one page, the page's hint leads to it and
+    /// it may be written. `false` says nothing but that all is as before. A program's stores try it first.
     #[inline(always)]
-    fn store_by_hint(&mut self, at: u64, n: u32, v: u64) -> bool
+    pub fn store_by_hint(&mut self, at: u64, n: u32, v: u64) -> bool
         requires { IsWidth n }
         ensures ok { IsTrue result → store_of self.old at n v ≡ Ok self.new }
         ensures unwritable { KeepsUnwritable self.old self.new }

@@ -53,20 +53,21 @@ impl Model for PageTable {
     ghost invariant = { λ t. IsTable t.index t.shared t.slots.items (vec_capacity t.slots) };
 }
 
-// Which of the hints is that of a page. Numbers that lie close together have hints of their own.
+// Which of the hints is that of a page. Numbers that lie close together have hints of their own. A program's code, data, mappings and stack lie
+// 64 GiB apart or nearly so; the upper bits keep the hints of their pages apart.
 #[inline(always)]
 fn place_of_hint(number: u64, mask: u64) -> usize {
-    ((number ^ (number >> 8) ^ (number >> 16)) & mask) as usize
+    ((number ^ (number >> 17)) & mask) as usize
 }
 
-// The slot that the hint of a page's number names.
+// The slot that the hint of a page's number names, if there are hints.
 #[inline(always)]
-fn hinted_slot(hints: &[u32], mask: u64, number: u64) -> usize {
+fn hinted_slot(hints: &[u32], mask: u64, number: u64) -> Option<usize> {
     let place = place_of_hint(number, mask);
     if place < hints.len() {
-        hints[place] as usize
+        Some(hints[place] as usize)
     } else {
-        0
+        None
     }
 }
 
@@ -118,7 +119,9 @@ impl PageTable {
     pub fn hinted(&self, number: u64) -> Option<&MappedPage>
         ensures { IfSome result (λ page. map.get self.now number ≡ Some page.now) }
     {
-        let place = hinted_slot(&self.hints, self.mask, number);
+        let Some(place) = hinted_slot(&self.hints, self.mask, number) else {
+            return None;
+        };
         if place >= self.slots.len() {
             return None;
         }
@@ -215,7 +218,9 @@ impl PageTable {
         ensures stored { IsTrue result → IsStored self.old number place n v self.new }
         ensures same { IsFalse result → self.new ≡ self.old }
     {
-        let at = hinted_slot(&self.hints, self.mask, number);
+        let Some(at) = hinted_slot(&self.hints, self.mask, number) else {
+            return false;
+        };
         if at >= self.slots.len() {
             return false;
         }

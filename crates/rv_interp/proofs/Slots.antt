@@ -3,6 +3,7 @@
 --     from_kept, all_kept      what is true stays true where pages that can be executed and not written stay
 --     kept_instruction      an instruction of a page that can't be written makes a true slot
 --     all_empty, set_true, slot_true      slots with no instruction, with one more, and one of them
+--     is_full      the slot of an instruction that was done
 --     decoded, step_at      the instruction that is next
 use Rattle.std.proofs.Common.{◌≡◌, ℕ, zero, suc, ◌+◌, ◌/◌, ◌%◌, ◌^◌, ◌<◌, ◌≤◌, Bool, true, false, List, [], ◌∷◌, ◌++◌, if◌then◌else◌, Option, Some, None, Result, Ok, Err, IfErr, IfSome, length, get_or, replicate, set, pos, inl, inr, refl, sym, ap, subst, ◌∙◌, arith}
 use Rattle.std.proofs.lemmas.Bool.Decides.{eqb_tells}
@@ -95,6 +96,7 @@ from_kept m n base slots keeps h =
     record {
       aligned = h.aligned;
       each = λ place d within. kept_true m n (address_at base place) keeps (aligned_place base place h.aligned) (get_or slots place d) (h.each place d within);
+      last = h.last;
     }
 
 pub all_kept : (m n : Pages) (regions : List Region) → KeepsCode m n → AreTrue m regions → AreTrue n regions
@@ -155,6 +157,7 @@ all_empty m base slots n multiple e =
       aligned = multiple;
       each = λ place d within. empty_true m (address_at base place) (get_or slots place d)
           (ap (λ xs. get_or xs place d) e ∙ get_or-replicate n place empty_slot d (omega (arith, within, long)));
+      last = λ place d end. ap (λ (s : Slot). s.op) (ap (λ xs. get_or xs place d) e ∙ get_or-replicate n place empty_slot d (omega (arith, end, long)));
     }
 
 each_set : (m : Pages) (base : ℕ) (slots : List Slot) (place : ℕ) (slot : Slot) → AreTrueFrom m base slots → IsTrueAt m (address_at base place) slot → place < length slots
@@ -167,13 +170,14 @@ each_set m base slots place slot h kept within k d small =
       | inr apart ↦ subst (IsTrueAt m (address_at base k)) (sym (get_or-set_other slots place k slot d apart.1)) (h.each k d small)
     ]
 
--- the slots with one filled
-pub set_true : (m : Pages) (base : ℕ) (slots : List Slot) (place : ℕ) (slot : Slot) → AreTrueFrom m base slots → IsTrueAt m (address_at base place) slot → place < length slots → AreTrueFrom m base (set slots place slot)
+-- the slots with one filled that isn't the last
+pub set_true : (m : Pages) (base : ℕ) (slots : List Slot) (place : ℕ) (slot : Slot) → AreTrueFrom m base slots → IsTrueAt m (address_at base place) slot → place + 1 < length slots → AreTrueFrom m base (set slots place slot)
 set_true m base slots place slot h kept within =
     let long = length-set slots place slot in
     record {
       aligned = h.aligned;
-      each = λ k d small. each_set m base slots place slot h kept within k d (omega (arith, small, long));
+      each = λ k d small. each_set m base slots place slot h kept (omega (arith, within)) k d (omega (arith, small, long));
+      last = λ k d end. ap (λ (s : Slot). s.op) (get_or-set_other slots place k slot d (λ same. omega (arith, same, end, long, within))) ∙ h.last k d (omega (arith, end, long));
     }
 
 -- the instruction of a slot, which names registers
@@ -190,12 +194,16 @@ traps : (i : Instr) (s : Machine) → i.op ≡ op.Ebreak → (execute_of i s).ou
 unfolding execute_of
 traps i s e = ap (λ o. (meaning_of (kind_of o) i s).outcome) e
 
+-- a slot whose instruction ended otherwise than an empty one's isn't empty
+pub is_full : (slot : Slot) (s : Machine) (o : Outcome) (t : Machine) → execute_of (instr_of slot) s ≡ record { outcome = o; after = t } → (o ≡ outcome.Trap signal.Trap → ⊥) → slot.op ≡ op.Ebreak → ⊥
+is_full slot s o t e n empty = n (sym (ap (λ (u : Step). u.outcome) e) ∙ traps (instr_of slot) s empty)
+
 -- what a slot's instruction does is what the instruction at its place does, unless it traps
 pub step_at : (m : Pages) (base place : ℕ) (slot : Slot) (r : Registers) (held : Reservation) (o : Outcome) (t : Machine) → IsTrueAt m (address_at base place) slot → r.pc ≡ address_at base place
     → execute_of (instr_of slot) (machine r m held) ≡ record { outcome = o; after = t } → (o ≡ outcome.Trap signal.Trap → ⊥) → step_of (machine r m held) ≡ record { outcome = o; after = t }
 step_at m base place slot r held o t kept same e n =
     let fixed : IsFixedAt m (address_at base place) (instr_of slot) =
-    kept.fixed (λ empty. n (sym (ap (λ (u : Step). u.outcome) e) ∙ traps (instr_of slot) (machine r m held) empty)) in
+    kept.fixed (is_full slot (machine r m held) o t e n) in
     decoded m r held (address_at base place) (instr_of slot) _ same fixed.instruction e
 
 -- what holds of what there is

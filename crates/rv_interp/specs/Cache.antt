@@ -1,5 +1,5 @@
 -- What a cache of decoded instructions keeps.
-use Rattle.std.specs.Prelude.{◌≡◌, ℕ, ◌%◌, ◌/◌, ◌^◌, ◌<◌, List, length, get_or, false, Some, Ok}
+use Rattle.std.specs.Prelude.{◌≡◌, ℕ, ◌+◌, ◌%◌, ◌/◌, ◌^◌, ◌<◌, List, length, get_or, false, Some, Ok}
 use Rattle.std.specs.FinMap.{get}
 use Rattle.std.specs.List.{All}
 use Rattle.abi_base.specs.declared.address_space.TheConstants.{PAGE_SIZE}
@@ -25,10 +25,11 @@ pub record IsTrueAt (m : Pages) (pc : ℕ) (slot : Slot) : Type 0 where
   pub registers : NamesRegisters (instr_of slot)
   pub fixed : (slot.op ≡ op.Ebreak → ⊥) → IsFixedAt m pc (instr_of slot)
 
--- each slot of those from an address on is true of this memory
+-- each slot of those from an address on is true of this memory, and the last one is empty
 pub record AreTrueFrom (m : Pages) (base : ℕ) (slots : List Slot) : Type 0 where
   pub aligned : base % 4 ≡ 0
   pub each : (place : ℕ) (d : Slot) → place < length slots → IsTrueAt m (address_at base place) (get_or slots place d)
+  pub last : (place : ℕ) (d : Slot) → place + 1 ≡ length slots → (get_or slots place d).op ≡ op.Ebreak
 
 abbrev pub RegionIsTrue : Pages → Region → Type 0
 RegionIsTrue m region = AreTrueFrom m region.base region.slots.items

@@ -169,9 +169,7 @@ impl Cache {
             if first > page {
                 end = end.min(first);
             } else {
-                lowest = lowest.max(first.saturating_add(
-                    region.slots.len() as u64 / SLOTS_OF_PAGE,
-                ));
+                lowest = lowest.max(first.saturating_add(region.places() / SLOTS_OF_PAGE));
             }
         }
         (lowest, end)

@@ -97,7 +97,11 @@ fn load(
     ensures exact { load_step (with_pc regs.old (address_at base at.old)) mem.old (instr_of slot.now) ≡ record { outcome = result; regs = with_pc regs.new (address_at base at.new) } }
     ensures same { mem.new ≡ mem.old }
 {
-    let read = mem.load(named_address(regs, slot), width(op));
+    let from = named_address(regs, slot);
+    if let Some(v) = mem.load_by_hint(from, width(op)) {
+        return done_at(regs, base, at, slot.rd, loaded_value(op, v));
+    }
+    let read = mem.load(from, width(op));
     loaded(regs, base, at, slot, op, read)
 }
 
@@ -116,7 +120,12 @@ fn store(
     ensures exact { store_step (with_pc regs.old (address_at base at.old)) mem.old (instr_of slot.now) ≡ record { outcome = result; regs = with_pc regs.new (address_at base at.new); memory = mem.new } }
     ensures unwritable { KeepsUnwritable mem.old mem.new }
 {
-    match mem.store(named_address(regs, slot), width(op), second(regs, slot)) {
+    let to = named_address(regs, slot);
+    let value = second(regs, slot);
+    if mem.store_by_hint(to, width(op), value) {
+        return done_at(regs, base, at, 0, 0);
+    }
+    match mem.store(to, width(op), value) {
         Ok(()) => done_at(regs, base, at, 0, 0),
         Err(_) => Outcome::Trap(Signal::Segv),
     }

@@ -1,8 +1,9 @@
 //! Runs of pages of code, each instruction of which has a slot by its place.
-ghost use Rattle.std.specs.Prelude.{◌≡◌, ◌<◌, ◌≤◌, ◌%◌, ℕ, length, IfOk, IfSome, IsTrue};
+ghost use Rattle.std.specs.Prelude.{◌≡◌, ◌<◌, ◌≤◌, ◌+◌, ◌-◌, ◌%◌, ℕ, length, IfOk, IfSome, IsTrue};
 ghost use Rattle.abi_base.specs.Registers.{with_pc};
 ghost use Rattle.guest_memory.specs.Page.{Pages};
 ghost use Rattle.guest_memory.specs.Written.{KeepsUnwritable};
+ghost use Rattle.rv_code.specs.declared.instr.Op.TheVariants as op;
 ghost use Rattle.rv_interp.specs.declared.execution.Outcome.TheVariants as outcome;
 ghost use Rattle.rv_interp.specs.Cache.{AreTrueFrom, IsTrueAt, RegionIsTrue};
 ghost use Rattle.rv_interp.specs.Instructions.{step_of};
@@ -23,8 +24,8 @@ use std::alloc::{AllocError, Global};
 // slower.
 const DECODED_AT_ONCE: u64 = 8;
 
-/// Slots of the instructions from an address on, one for each 4 bytes. A slot is empty as long as its instruction wasn't needed, and
-/// where its page may be written.
+/// Slots of the instructions from an address on, one for each 4 bytes, and one more behind them, which stays empty. A slot is empty as
+/// long as its instruction wasn't needed, and where its page may be written.
 #[derive(Drop)]
 pub struct Region {
     pub base: u64,
@@ -52,12 +53,14 @@ pub struct Stop {
 #[inline(always)]
 fn slot_at(slots: &[Slot], place: u64) -> &Slot
     requires { place < length slots.now }
-    ensures { (m : Pages) (base : ℕ) → AreTrueFrom m base slots.now → IsTrueAt m (address_at base place) result.now }
+    ensures kept { (m : Pages) (base : ℕ) → AreTrueFrom m base slots.now → IsTrueAt m (address_at base place) result.now }
+    ensures last { (m : Pages) (base : ℕ) → AreTrueFrom m base slots.now → place + 1 ≡ length slots.now → result.now.op ≡ op.Ebreak }
 {
     &slots[place as usize]
 }
 
-// Does instructions of slots from a place on: at most so many, and as long as they have slots.
+// Does instructions of slots from a place on: at most so many, and as long as they have slots. Since the last slot is empty, there is
+// one behind each instruction that was done, so that only a jump can lead where there is none.
 #[inline(never)]
 fn run_slots(
     regs: &mut Regs,
@@ -75,18 +78,27 @@ fn run_slots(
     ensures call { IsTrue result.is_call → step_of (machine (with_pc regs.new (address_at base result.at)) mem.new held.new) ≡ record { outcome = outcome.Ecall; after = machine (with_pc regs.new (address_at base result.at)) mem.new held.new } }
     ensures unwritable { KeepsUnwritable mem.old mem.new }
 {
+    if at >= slots.len() as u64 {
+        return Stop {
+            done: 0,
+            at,
+            is_call: false,
+        };
+    }
     let mut place = at;
     for done in 0..most {
-        if place >= slots.len() as u64 {
-            return Stop {
-                done,
-                at: place,
-                is_call: false,
-            };
-        }
-        let slot = slot_at(slots, place);
+        let before = place;
+        let slot = slot_at(slots, before);
         match execute_at(regs, base, &mut place, mem, held, slot) {
-            Outcome::Done => {}
+            Outcome::Done => {
+                if place != before + 1 && place >= slots.len() as u64 {
+                    return Stop {
+                        done: done + 1,
+                        at: place,
+                        is_call: false,
+                    };
+                }
+            }
             Outcome::Ecall => {
                 return Stop {
                     done,
@@ -125,9 +137,9 @@ fn kept_slot(mem: &mut GuestMemory, pc: u64) -> Option<Slot>
     }
 }
 
-// Fills the slot at a place.
+// Fills the slot at a place, which isn't the last.
 fn put(slots: &mut Vec<Slot>, at: u64, slot: Slot)
-    requires { at < length slots.old.items }
+    requires { at + 1 < length slots.old.items }
     ensures { (m : Pages) (base : ℕ) → AreTrueFrom m base slots.old.items → IsTrueAt m (address_at base at) slot → AreTrueFrom m base slots.new.items }
 {
     slots[at as usize] = slot;
@@ -138,16 +150,24 @@ impl Region {
     pub fn new(alloc: Global, page: u64, count: usize) -> Result<Self, AllocError>
         ensures { IfOk result (λ region. (m : Pages) → RegionIsTrue m region) }
     {
-        let slots = vec![in alloc; EMPTY; count]?;
+        let slots = vec![in alloc; EMPTY; count.saturating_add(1)]?;
         Ok(Region {
             base: page.wrapping_mul(PAGE_SIZE),
             slots,
         })
     }
 
+    /// How many instructions can have a slot here.
+    #[inline(always)]
+    pub fn places(&self) -> u64
+        ensures { result ≡ length self.now.slots.items - 1 }
+    {
+        (self.slots.len() as u64).saturating_sub(1)
+    }
+
     /// Whether an instruction at an address has a slot here.
     pub fn has(&self, pc: u64) -> bool {
-        pc.wrapping_sub(self.base) / 4 < self.slots.len() as u64
+        pc.wrapping_sub(self.base) / 4 < self.places()
     }
 
     /// Does instructions that are kept here, from the pc on: at most so many.
@@ -182,7 +202,7 @@ impl Region {
         ensures slots { RegionIsTrue mem.old self.old → RegionIsTrue mem.new self.new }
         ensures same { mem.new ≡ mem.old }
     {
-        if at >= self.slots.len() as u64 || self.slots[at as usize].op != EMPTY.op {
+        if at >= self.places() || self.slots[at as usize].op != EMPTY.op {
             return false;
         }
         let Some(slot) = kept_slot(mem, address_at(self.base, at)) else {

@@ -10,7 +10,7 @@ pub returns-then-slot-number : goal.returns-then-slot-number
 returns-then-slot-number c =
     let index = c.self.inside.index in
     let slots = c.self.inside.slots.items in
-    let place = c.hinted_slot-place.result in
+    let place = c.in-Some.place in
     let within : place < length slots = omega (arith, c.if-place-len.false, c.len.ensures, c.self.inside.slots.ok.0) in
     let read : c.index-slot.result.now ≡ slot_at slots place = read_is slots place c.index-slot.result.now within c.index-slot.ensures in
     ap (λ (m : Pages). get m c.args.number) (sym c.self.view_is)

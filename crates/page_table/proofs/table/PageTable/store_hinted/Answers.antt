@@ -11,7 +11,7 @@ pub invariant_of-self-2 : goal.invariant_of-self-2
 invariant_of-self-2 c =
     let index = c.self.inside.index in
     let slots = c.self.inside.slots.items in
-    let at = c.hinted_slot-at.result in
+    let at = c.in-Some.at in
     let within : at < length slots = omega (arith, c.if-at-len.false, c.len.ensures, c.self.inside.slots.ok.0) in
     let read : c.index_mut-slot.result.now ≡ slot_at slots at = read_is slots at c.index_mut-slot.result.now within c.index_mut-slot.ensures.value in
     let number = ap (λ (s : Slot). s.number) (sym read) ∙ c.if-slot-number.false in
@@ -22,7 +22,7 @@ pub returns-clause-stored : goal.returns-clause-stored
 returns-clause-stored c = λ _.
     let index = c.self.inside.index in
     let slots = c.self.inside.slots.items in
-    let at = c.hinted_slot-at.result in
+    let at = c.in-Some.at in
     let within : at < length slots = omega (arith, c.if-at-len.false, c.len.ensures, c.self.inside.slots.ok.0) in
     let read : c.index_mut-slot.result.now ≡ slot_at slots at = read_is slots at c.index_mut-slot.result.now within c.index_mut-slot.ensures.value in
     let number = ap (λ (s : Slot). s.number) (sym read) ∙ c.if-slot-number.false in
