@@ -1,6 +1,7 @@
 -- Slots of decoded instructions.
 --     code_kept      a page that can't be written stays, so one that can be executed too
 --     from_kept, all_kept      what is true stays true where pages that can be executed and not written stay
+--     all_aligned      regions begin at multiples of 4
 --     kept_instruction      an instruction of a page that can't be written makes a true slot
 --     all_empty, set_true, slot_true      slots with no instruction, with one more, and one of them
 --     is_full      the slot of an instruction that was done
@@ -28,7 +29,7 @@ use Rattle.rv_interp.specs.declared.slot.Slot.{Slot}
 use Rattle.rv_interp.specs.declared.execution.Outcome.{Outcome}
 use Rattle.rv_interp.specs.declared.execution.Outcome.TheVariants as outcome
 use Rattle.rv_interp.specs.declared.reservation.Reservation.{Reservation}
-use Rattle.rv_interp.specs.Cache.{IsFixedAt, IsTrueAt, AreTrueFrom, RegionIsTrue, AreTrue}
+use Rattle.rv_interp.specs.Cache.{IsFixedAt, IsTrueAt, AreTrueFrom, RegionIsTrue, AreTrue, AreAligned}
 use Rattle.rv_interp.specs.Slots.{address_at, instr_of}
 use Rattle.rv_interp.specs.Kinds.{kind_of}
 use Rattle.rv_interp.proofs.PlaceLaws.{aligned_place}
@@ -102,6 +103,9 @@ from_kept m n base slots keeps h =
 pub all_kept : (m n : Pages) (regions : List Region) → KeepsCode m n → AreTrue m regions → AreTrue n regions
 all_kept m n regions keeps h =
     All-weaker (RegionIsTrue m) (RegionIsTrue n) (λ region. from_kept m n region.base region.slots.items keeps) regions h
+
+pub all_aligned : (m : Pages) (regions : List Region) → AreTrue m regions → AreAligned regions
+all_aligned m regions h = All-weaker (RegionIsTrue m) (λ region. region.base % 4 ≡ 0) (λ region true. true.aligned) regions h
 
 -- ---- a page that can't be written
 

@@ -8,6 +8,7 @@ use Rattle.rv_code.specs.declared.instr.Instr.{Instr}
 use Rattle.rv_code.specs.declared.instr.Op.TheVariants as op
 use Rattle.rv_code.specs.Formats.{NamesRegisters}
 use Rattle.rv_interp.specs.declared.regions.Region.{Region}
+use Rattle.rv_interp.specs.declared.runs.Place.{Place}
 use Rattle.rv_interp.specs.declared.slot.Slot.{Slot}
 use Rattle.rv_interp.specs.Instructions.{instruction_at}
 use Rattle.rv_interp.specs.Slots.{address_at, instr_of}
@@ -38,7 +39,16 @@ RegionIsTrue m region = AreTrueFrom m region.base region.slots.items
 abbrev pub AreTrue : Pages → List Region → Type 0
 AreTrue m regions = All (RegionIsTrue m) regions
 
--- an address may be that of an instruction of this region
-pub record IsPlaced (pc k : ℕ) (regions : List Region) : Type 0 where
-  pub within : k < length regions
-  pub aligned : pc % 4 ≡ 0
+-- each region begins at a multiple of 4
+abbrev pub AreAligned : List Region → Type 0
+AreAligned regions = All (λ region. region.base % 4 ≡ 0) regions
+
+-- the instruction at an address has the slot at this place of a region
+pub record IsPlaceOf (region : Region) (pc at : ℕ) : Type 0 where
+  pub within : at < length region.slots.items
+  pub address : address_at region.base at ≡ pc
+
+-- the instruction at an address has a slot of one of these regions
+pub record IsFound (regions : List Region) (pc : ℕ) (place : Place) : Type 0 where
+  pub within : place.region < length regions
+  pub is_place : (d : Region) → IsPlaceOf (get_or regions place.region d) pc place.at

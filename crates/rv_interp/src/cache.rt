@@ -2,22 +2,23 @@
 ghost use Rattle.std.specs.Prelude.{◌≡◌, ◌<◌, ◌≤◌, ◌%◌, length, IfOk, IfSome, IsTrue};
 ghost use Rattle.guest_memory.specs.Page.{Pages};
 ghost use Rattle.rv_interp.specs.declared.execution.Outcome.TheVariants as outcome;
-ghost use Rattle.rv_interp.specs.Cache.{AreTrue, IsPlaced, RegionIsTrue};
+ghost use Rattle.rv_interp.specs.Cache.{AreAligned, AreTrue, IsFound, RegionIsTrue};
 ghost use Rattle.rv_interp.specs.Instructions.{step_of};
 ghost use Rattle.rv_interp.specs.Machine.{machine};
 ghost use Rattle.rv_interp.specs.Turns.{Does};
 
 use crate::code_pages::{count_from, first_of, is_code};
 use crate::execution::{Outcome, step};
-use crate::regions::{Kept, Region};
+use crate::regions::Region;
 use crate::reservation::Reservation;
+use crate::runs::{Kept, Place, find, run_regions};
 use abi_base::{PAGE_SIZE, Regs};
 use guest_memory::GuestMemory;
 use std::alloc::{AllocError, Global};
 use std::marker::Model;
 
-// How many regions there are at most: each jump that leaves a region looks through them. And how many slots all have together: those of
-// 16 MiB of code.
+// How many regions there are at most: a jump from one to another looks through them, unless it goes back to the one before. And how many
+// slots all have together: those of 16 MiB of code.
 const MOST_REGIONS: usize = 32;
 
 const MOST_SLOTS: usize = 4194304;
@@ -77,19 +78,15 @@ impl Cache {
         self.slots = 0;
     }
 
-    // The region that has an instruction at an address.
-    fn find(&self, pc: u64) -> Option<usize>
-        ensures { IfSome result (λ k. IsPlaced pc k self.now) }
+    // The place of the instruction at an address, if a region has it.
+    fn find(&self, pc: u64) -> Option<Place>
+        requires { AreAligned self.now }
+        ensures { IfSome result (IsFound self.now pc) }
     {
         if pc % 4 != 0 {
             return None;
         }
-        for k in 0..self.regions.len() {
-            if self.regions[k].has(pc) {
-                return Some(k);
-            }
-        }
-        None
+        find(&self.regions, pc)
     }
 
     /// Does instructions that are kept, from the pc on: at most so many.
@@ -108,14 +105,13 @@ impl Cache {
         ensures slots { AreTrue mem.new self.now }
     {
         let pc = regs.pc();
-        let Some(k) = self.find(pc) else {
+        let Some(first) = self.find(pc) else {
             return Kept {
                 done: 0,
                 is_call: false,
             };
         };
-        let region = &self.regions[k];
-        region.run(regs, mem, held, most)
+        run_regions(regs, mem, held, &self.regions, first, most)
     }
 
     // Adds a region, if there is memory for it.
@@ -208,11 +204,12 @@ impl Cache {
 
     // Takes slots for the pages of code around an address, or decodes the instruction there and some of those behind it, if they are there.
     fn learn(&mut self, mem: &mut GuestMemory, pc: u64)
-        ensures slots { AreTrue mem.old self.old → AreTrue mem.new self.new }
+        requires { AreTrue mem.old self.old }
+        ensures slots { AreTrue mem.new self.new }
         ensures same { mem.new ≡ mem.old }
     {
         match self.find(pc) {
-            Some(k) => self.decode_in(k, mem, pc),
+            Some(place) => self.decode_in(place.region, mem, pc),
             None => self.open(mem, pc),
         }
     }

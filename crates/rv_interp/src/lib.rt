@@ -18,6 +18,7 @@ mod operations;
 mod places;
 mod regions;
 mod reservation;
+mod runs;
 mod slot;
 mod turns;
 mod values;

@@ -118,7 +118,8 @@ fn offset_of(base: u64, target: u64) -> u64
 pub fn place_of(base: u64, pc: u64) -> u64
     requires base { base % 4 ≡ 0 }
     requires pc { pc % 4 ≡ 0 }
-    ensures { address_at base result ≡ pc }
+    ensures place { address_at base result ≡ pc }
+    ensures small { result < 2 ^ 62 }
 {
     let offset = offset_of(base, pc);
     offset / 4

@@ -5,7 +5,7 @@ ghost use Rattle.guest_memory.specs.Page.{Pages};
 ghost use Rattle.guest_memory.specs.Written.{KeepsUnwritable};
 ghost use Rattle.rv_code.specs.declared.instr.Op.TheVariants as op;
 ghost use Rattle.rv_interp.specs.declared.execution.Outcome.TheVariants as outcome;
-ghost use Rattle.rv_interp.specs.Cache.{AreTrueFrom, IsTrueAt, RegionIsTrue};
+ghost use Rattle.rv_interp.specs.Cache.{AreTrueFrom, IsPlaceOf, IsTrueAt, RegionIsTrue};
 ghost use Rattle.rv_interp.specs.Instructions.{step_of};
 ghost use Rattle.rv_interp.specs.Machine.{machine};
 ghost use Rattle.rv_interp.specs.Slots.{address_at};
@@ -32,16 +32,7 @@ pub struct Region {
     pub slots: Vec<Slot>,
 }
 
-/// What kept instructions did.
-#[derive(Clone, Copy)]
-pub struct Kept {
-    /// How many were done.
-    pub done: u32,
-    /// Whether the next one is an ECALL. If it isn't, it is not said what it is.
-    pub is_call: bool,
-}
-
-/// Where instructions of slots came to an end: the same, and the place of the instruction that is next.
+/// Where instructions of slots came to an end: how many were done, the place of the next one, and whether that is an ECALL.
 #[derive(Clone, Copy)]
 pub struct Stop {
     pub done: u32,
@@ -59,34 +50,31 @@ fn slot_at(slots: &[Slot], place: u64) -> &Slot
     &slots[place as usize]
 }
 
-// Does instructions of slots from a place on: at most so many, and as long as they have slots. Since the last slot is empty, there is
-// one behind each instruction that was done, so that only a jump can lead where there is none.
-#[inline(never)]
-fn run_slots(
+/// Does instructions of slots from a place on, as long as they have slots, and until `most` are done with the `from` that were done before.
+/// Since the last slot is empty, there is one behind each instruction that was done, so that only a jump can lead where there is none.
+#[inline(always)]
+pub fn run_slots(
     regs: &mut Regs,
     base: u64,
     at: u64,
     mem: &mut GuestMemory,
     held: &mut Reservation,
     slots: &[Slot],
+    from: u32,
     most: u32,
 ) -> Stop
-    requires { AreTrueFrom mem.old base slots.now }
+    requires slots { AreTrueFrom mem.old base slots.now }
+    requires at { at < length slots.now }
+    requires from { from ≤ most }
     ensures few { result.done ≤ most }
-    ensures done { Does result.done (machine (with_pc regs.old (address_at base at)) mem.old held.old) (machine (with_pc regs.new (address_at base result.at)) mem.new held.new) }
+    ensures since { from ≤ result.done }
+    ensures done { Does (result.done - from) (machine (with_pc regs.old (address_at base at)) mem.old held.old) (machine (with_pc regs.new (address_at base result.at)) mem.new held.new) }
     ensures more { IsTrue result.is_call → result.done < most }
     ensures call { IsTrue result.is_call → step_of (machine (with_pc regs.new (address_at base result.at)) mem.new held.new) ≡ record { outcome = outcome.Ecall; after = machine (with_pc regs.new (address_at base result.at)) mem.new held.new } }
     ensures unwritable { KeepsUnwritable mem.old mem.new }
 {
-    if at >= slots.len() as u64 {
-        return Stop {
-            done: 0,
-            at,
-            is_call: false,
-        };
-    }
     let mut place = at;
-    for done in 0..most {
+    for done in from..most {
         let before = place;
         let slot = slot_at(slots, before);
         match execute_at(regs, base, &mut place, mem, held, slot) {
@@ -165,35 +153,18 @@ impl Region {
         (self.slots.len() as u64).saturating_sub(1)
     }
 
-    /// Whether an instruction at an address has a slot here.
-    pub fn has(&self, pc: u64) -> bool {
-        pc.wrapping_sub(self.base) / 4 < self.places()
-    }
-
-    /// Does instructions that are kept here, from the pc on: at most so many.
-    pub fn run(
-        &self,
-        regs: &mut Regs,
-        mem: &mut GuestMemory,
-        held: &mut Reservation,
-        most: u32,
-    ) -> Kept
-        requires slots { RegionIsTrue mem.old self.now }
-        requires aligned { regs.old.pc % 4 ≡ 0 }
-        ensures few { result.done ≤ most }
-        ensures done { Does result.done (machine regs.old mem.old held.old) (machine regs.new mem.new held.new) }
-        ensures more { IsTrue result.is_call → result.done < most }
-        ensures call { IsTrue result.is_call → step_of (machine regs.new mem.new held.new) ≡ record { outcome = outcome.Ecall; after = machine regs.new mem.new held.new } }
-        ensures unwritable { KeepsUnwritable mem.old mem.new }
+    /// The place of the instruction at an address, if it has a slot here.
+    #[inline(always)]
+    pub fn place(&self, pc: u64) -> Option<u64>
+        requires base { self.now.base % 4 ≡ 0 }
+        requires pc { pc % 4 ≡ 0 }
+        ensures { IfSome result (IsPlaceOf self.now pc) }
     {
-        let pc = regs.pc();
         let at = place_of(self.base, pc);
-        let stop = run_slots(regs, self.base, at, mem, held, &self.slots, most);
-        let next = address_at(self.base, stop.at);
-        regs.set_pc(next);
-        Kept {
-            done: stop.done,
-            is_call: stop.is_call,
+        if at + 1 < self.slots.len() as u64 {
+            Some(at)
+        } else {
+            None
         }
     }
 

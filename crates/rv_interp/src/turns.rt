@@ -43,10 +43,6 @@ pub fn turn(regs: &mut Regs, mem: &mut GuestMemory, cache: &mut Cache) -> TurnEn
         if left == 0 {
             return TurnEnd::Quantum;
         }
-        // Instructions that are kept may go on in another region.
-        if kept.done > 0 {
-            continue;
-        }
         match cache.step(regs, mem, &mut held) {
             Outcome::Done => left -= 1,
             Outcome::Ecall => return TurnEnd::Ecall,

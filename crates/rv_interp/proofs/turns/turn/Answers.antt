@@ -52,16 +52,6 @@ returns-then-left-eq0-clause-exact c =
           (machine kept.new.regs kept.new.mem kept.new.held) c.loop.invariant.done kept.ensures.done c.if-left-eq0.true kept.ensures.few (omega (arith, c.loop.invariant.few)),
     )
 
-pub loop-preserved-then-kept-gt0 : goal.loop-preserved-then-kept-gt0
-loop-preserved-then-kept-gt0 c =
-    let kept = c.run-kept in
-    record {
-      done = does-within c.loop.left kept.result.done (fresh c.args.mem.now c.args.regs.now) (machine c.loop.regs c.loop.mem c.loop.held) (machine kept.new.regs kept.new.mem kept.new.held)
-          c.loop.invariant.done kept.ensures.done kept.ensures.few (omega (arith, c.loop.invariant.few));
-      few = omega (arith, c.loop.invariant.few, c.if-kept-gt0.true, kept.ensures.few);
-      slots = kept.ensures.slots;
-    }
-
 -- ---- an instruction that isn't kept
 
 -- the turn that ends at an ECALL
