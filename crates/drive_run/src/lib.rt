@@ -3,7 +3,6 @@
 
 pub use run::{Driven, drive};
 
-mod board;
-mod outside;
 mod run;
+mod tickets;
 mod workers;

@@ -1,6 +1,6 @@
 //! The workers of a run. Each takes a ticket, takes turns of its thread, and gives it back. Where all threads wait, one worker lets time
 //! go on.
-use crate::board::{Board, Done, Task, ThreadTicket};
+use crate::tickets::{Done, ThreadTicket};
 use guest_process::FIRST_THREAD;
 use kernel_cell::{Cell, Naming};
 use process_cell::{Did, Gate, Phase, Process};
@@ -8,7 +8,7 @@ use std::alloc::Global;
 use std::sync::{Condvar, Mutex, Wait};
 use std::thread;
 use std::thread::Threads;
-use turn_queue::Ticket;
+use turn_queue::{Board, Task, Ticket};
 
 // How many steps a worker takes with a ticket at most before it gives it back, and with it the memory lock of the ticket's process.
 const STEPS: u32 = 64;
@@ -16,16 +16,16 @@ const STEPS: u32 = 64;
 // What the workers of a run share beside its kernel: the board of tickets behind a lock, and the bell that they wait for.
 #[derive(Drop)]
 struct Workplace<J: Naming> {
-    board: Mutex<Board<J>>,
+    board: Mutex<Board<ThreadTicket<J>>>,
     bell: Condvar,
 }
 
 impl<J: Naming> Workplace<J> {
     // The next task for a worker, who says what it did. Another worker is woken only where one waits that need wait no more.
-    fn next<R: Wait>(&self, rt: &R, done: Option<Done<J>>) -> Task<J> {
+    fn next<R: Wait>(&self, rt: &R, done: Option<Done<J>>) -> Task<ThreadTicket<J>> {
         let mut board = self.board.lock(rt);
         if let Some(done) = done {
-            board.take_done(done);
+            done.tell(&mut board);
         }
         if board.waits() {
             board.begin_waiting();

@@ -1,6 +1,10 @@
-//! The queue of the threads that are to take turns. Each thread has a ticket, which is ready or parked.
+//! The queue of the threads that are to take turns. Each thread has a ticket, which is ready or parked. And the board by which workers share
+//! the tickets.
 #![tactic(auto)]
 
+pub use board::{Back, Board, Passed, SharedTicket, Task};
 pub use queue::{Queue, Ticket};
 
+mod board;
+mod outside;
 mod queue;

@@ -1,5 +1,5 @@
 //! The tickets that workers have, of which no two are of one process.
-use abi_types::{Pid, Tid};
+use abi_base::{Pid, Tid};
 use std::alloc::{AllocError, Global};
 
 // The ticket of this thread, and whether the thread is to be looked at again even if it waits when the ticket is back.
