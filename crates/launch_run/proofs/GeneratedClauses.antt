@@ -9,11 +9,12 @@ use Rattle.kernel_cell.specs.declared.record.Record.{Record}
 use Rattle.launch_reading.specs.Launch.{Described, refuses, IsKnownAs}
 use Rattle.launch_reading.specs.Refusal.{memory_line, words_line, input_line, too_long_line}
 use Rattle.launch_reading.specs.declared.refusal.LaunchRefusal.TheVariants.{Words, Input, TooLong, Program, Tree, LaunchText, Memory}
-use Rattle.launch_run.specs.declared.top.RunEnd.{RunEnd}
-use Rattle.launch_run.specs.declared.top.RunEnd.TheVariants.{Reported, StallReported, Unwritten, NotBegun, Lacking}
+use Rattle.book_report.specs.declared.ends.RunEnd.{RunEnd}
+use Rattle.book_report.specs.declared.ends.RunEnd.TheVariants.{Reported, StallReported, Unwritten, NotBegun, Lacking}
 use Rattle.launch_run.specs.declared.top.TopEnd.{TopEnd}
 use Rattle.launch_run.specs.declared.top.TopEnd.TheVariants.{Refused, Ran}
-use Rattle.launch_run.specs.TopCall.{Wrote, IsKept, Completes, HasEndedWith, HasFailedWith, HasStalledWith, IsProgramRefused, IsTreeRefused, IsTextRefused, IsTopEnd, finished_of, finished_run, record_summary, status_number}
+use Rattle.launch_run.specs.TopCall.{Wrote, IsKept, Completes, HasEndedWith, HasFailedWith, HasStalledWith, IsProgramRefused, IsTreeRefused, IsTextRefused, IsTopEnd, finished_of, finished_run, status_number}
+use Rattle.book_report.specs.Shown.{record_summary}
 use Rattle.launch_run.specs.GeneratedCall.{IsGeneratedEnd, IsGeneratedRun, IsGeneratedStatus, OfGenerated, generated_content, generated_describe, processes_in, settings_for}
 use Rattle.launch_run.proofs.GeneratedInputs.{no_input_refused, no_rise}
 use Rattle.launch_run.proofs.TopClauses.{status_is_small, top_complete, top_ended, top_input, top_kept, top_memory, top_program, top_stalled, top_text, top_tree, top_unwritten, top_words}

@@ -17,7 +17,8 @@ use Rattle.launch_reading.specs.Launch.{Described, unknown, refuses, describes, 
 use Rattle.launch_reading.specs.LaunchText.{TextPlan, planned_text}
 use Rattle.launch_reading.specs.Refusal.{too_long_line}
 use Rattle.launch_reading.specs.declared.inputs.Inputs.{Inputs}
-use Rattle.launch_run.specs.TopCall.{IsTopEnd, record_summary}
+use Rattle.launch_run.specs.TopCall.{IsTopEnd}
+use Rattle.book_report.specs.Shown.{record_summary}
 use Rattle.launch_run.specs.GeneratedCall.{AreShort, IsGeneratedRun, IsSourceFor, generated_content, generated_describe, generated_inputs, settings_for}
 use Rattle.launch_run.specs.declared.top.TopEnd.{TopEnd}
 

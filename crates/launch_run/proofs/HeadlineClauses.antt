@@ -10,12 +10,13 @@ use Rattle.run_types.specs.declared.launch.Launch.{Launch}
 use Rattle.tree_model.specs.Grants.{MayBegin}
 use Rattle.run_model.specs.Legal.{Legal}
 use Rattle.launch_reading.specs.declared.refusal.LaunchRefusal.TheVariants.{Words, Memory}
-use Rattle.launch_run.specs.declared.top.RunEnd.{RunEnd}
-use Rattle.launch_run.specs.declared.top.RunEnd.TheVariants.{Reported, StallReported, Unwritten, NotBegun, Lacking}
+use Rattle.book_report.specs.declared.ends.RunEnd.{RunEnd}
+use Rattle.book_report.specs.declared.ends.RunEnd.TheVariants.{Reported, StallReported, Unwritten, NotBegun, Lacking}
 use Rattle.launch_run.specs.declared.top.TopEnd.{TopEnd}
 use Rattle.launch_run.specs.declared.top.TopEnd.TheVariants.{Refused, Ran}
 use Rattle.launch_run.specs.GeneratedCall.{IsGeneratedEnd}
-use Rattle.launch_run.specs.TopCall.{IsRecordOf, IsRunOf, IsTopEnd, finished_of, finished_run}
+use Rattle.book_report.specs.Ends.{IsRecordOf}
+use Rattle.launch_run.specs.TopCall.{IsRunOf, IsTopEnd, finished_of, finished_run}
 
 module _ (P : Launch → List Entry → Type 0) (law : (launch : Launch) (history : List Entry) → MayBegin launch.tree launch.grants → Legal launch history → P launch history) where
   abbrev Is : Record → Type 0

@@ -9,10 +9,11 @@ use Rattle.input_output.specs.Source.{Rose}
 use Rattle.input_output.proofs.OutsideLaws.{rose_since}
 use Rattle.run_types.specs.declared.launch.Launch.{Launch}
 use Rattle.launch_reading.specs.Refusal.{memory_line}
-use Rattle.launch_run.specs.declared.top.RunEnd.{RunEnd}
-use Rattle.launch_run.specs.declared.top.RunEnd.TheVariants.{Reported, StallReported, Unwritten, NotBegun, Lacking}
+use Rattle.book_report.specs.declared.ends.RunEnd.{RunEnd}
+use Rattle.book_report.specs.declared.ends.RunEnd.TheVariants.{Reported, StallReported, Unwritten, NotBegun, Lacking}
 use Rattle.kernel_cell.specs.declared.record.Record.{Record}
-use Rattle.launch_run.specs.TopCall.{IsEndOf, IsReportedEnd, ReportsEnd, Wrote}
+use Rattle.book_report.specs.Ends.{IsEndOf}
+use Rattle.launch_run.specs.TopCall.{IsReportedEnd, ReportsEnd, Wrote}
 
 by_cases : (first before after : ℕ) → first ≤ before → before + 1 ≡ 2 ^ 64 → (before < after) ⊎ (after ≤ before) → before ≤ after → Rose first after
 by_cases first before after early last (inl more) late = inl (omega (arith, early, more))

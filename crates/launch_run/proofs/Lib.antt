@@ -1,9 +1,6 @@
 pub mod GeneratedClauses
 pub mod GeneratedInputs
 pub mod Refusals
-pub mod TopCalls
 pub mod TopClauses
-pub mod KeptReports
 pub mod LastLines
-pub mod AlikeReports
 pub mod HeadlineClauses

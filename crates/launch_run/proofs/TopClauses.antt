@@ -15,11 +15,12 @@ use Rattle.launch_reading.specs.Launch.{Described, unknown, refuses, describes, 
 use Rattle.launch_reading.specs.Refusal.{words_line, memory_line, status_of}
 use Rattle.launch_reading.specs.declared.refusal.LaunchRefusal.{LaunchRefusal}
 use Rattle.launch_reading.specs.declared.refusal.LaunchRefusal.TheVariants.{Words, Input, TooLong, Program, Tree, LaunchText, Memory}
-use Rattle.launch_run.specs.declared.top.RunEnd.{RunEnd}
-use Rattle.launch_run.specs.declared.top.RunEnd.TheVariants.{Reported, StallReported, Unwritten, NotBegun, Lacking}
+use Rattle.book_report.specs.declared.ends.RunEnd.{RunEnd}
+use Rattle.book_report.specs.declared.ends.RunEnd.TheVariants.{Reported, StallReported, Unwritten, NotBegun, Lacking}
 use Rattle.launch_run.specs.declared.top.TopEnd.{TopEnd}
 use Rattle.launch_run.specs.declared.top.TopEnd.TheVariants.{Refused, Ran}
-use Rattle.launch_run.specs.TopCall.{Wrote, IsRecordOf, IsRunOf, IsTopEnd, IsReportedEnd, IsInputRefused, IsKept, Completes, HasEndedWith, HasFailedWith, HasStalledWith, status_number, finished_run, finished_of, IsProgramRefused, IsTreeRefused, IsTextRefused}
+use Rattle.launch_run.specs.TopCall.{Wrote, IsRunOf, IsTopEnd, IsReportedEnd, IsInputRefused, IsKept, Completes, HasEndedWith, HasFailedWith, HasStalledWith, status_number, finished_run, finished_of, IsProgramRefused, IsTreeRefused, IsTextRefused}
+use Rattle.book_report.specs.Ends.{IsRecordOf}
 
 -- a record of a run is as every record that is kept
 is_kept : (given : Option Settings) (described : Described) (launch : Launch) (r : Record) → IsRecordOf launch (history_with given) r

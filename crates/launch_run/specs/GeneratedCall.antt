@@ -11,7 +11,8 @@ use Rattle.guest_kit.specs.Generated.{IsGenerated}
 use Rattle.guest_kit.specs.declared.generated.Generated.{Generated}
 use Rattle.launch_reading.specs.Launch.{Described, input_limit, inputs_describe}
 use Rattle.launch_reading.specs.Refusal.{memory_line, words_line}
-use Rattle.launch_run.specs.TopCall.{IsTopEnd, Wrote, record_summary}
+use Rattle.launch_run.specs.TopCall.{IsTopEnd, Wrote}
+use Rattle.book_report.specs.Shown.{record_summary}
 use Rattle.launch_run.specs.declared.top.TopEnd.{TopEnd}
 use Rattle.launch_run.specs.declared.top.TopEnd.TheVariants.{Refused}
 use Rattle.launch_reading.specs.declared.refusal.LaunchRefusal.TheVariants.{Words, Memory}

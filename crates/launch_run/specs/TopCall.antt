@@ -1,24 +1,19 @@
 -- What the top call answers and writes. The words are those of its caller; what a source shows of its inputs and what a
 -- sink shows of its bytes are as the traits say (a source or a sink may show nothing). A count of faults rose in a call
 -- where it is greater afterwards, or stands at its last value.
-use Rattle.std.specs.Prelude.{◌≡◌, ◌≢◌, ◌⊎◌, ◌==◌, ◌≤◌, ◌+◌, ◌*◌, ⊤, ℕ, Bool, true, List, [], length, Option, None, Some, Ok, Err, Contains, if◌then◌else◌}
+use Rattle.std.specs.Prelude.{◌≡◌, ◌≢◌, ◌⊎◌, ◌==◌, ◌≤◌, ◌+◌, ◌*◌, ⊤, ℕ, Bool, List, [], length, Option, None, Some, Ok, Err, Contains, if◌then◌else◌}
 use Rattle.std.specs.FinMap.{get}
 use Rattle.input_output.specs.Sink.{grown, GrewByPrefix}
 use Rattle.input_output.specs.Source.{InputContent}
 use Rattle.abi_types.specs.declared.status.Status.{Status}
 use Rattle.abi_types.specs.declared.status.Status.TheVariants.{Live, Exit, Killed}
-use Rattle.kernel_cell.specs.declared.cell.Book.{Book}
 use Rattle.kernel_cell.specs.declared.record.Record.{Record}
 use Rattle.shared_history.specs.Kept.{IsKeptOf}
-use Rattle.run_types.specs.declared.history.Entry.{Entry}
 use Rattle.run_types.specs.declared.launch.Launch.{Launch}
 use Rattle.tree_model.specs.Grants.{MayBegin}
-use Rattle.kernel_model.specs.Ends.{NoneLive}
-use Rattle.kernel_model.specs.State.{State}
 use Rattle.run_model.specs.Confined.{IsConfined}
 use Rattle.run_model.specs.Ends.{Ended, Stalled}
 use Rattle.run_model.specs.Legal.{Legal}
-use Rattle.run_model.specs.World.{world}
 use Rattle.authority_laws.specs.Laws.{IsRecorded}
 use Rattle.confinement_laws.specs.Headline.{IsConfinedHistory}
 use Rattle.confinement_laws.specs.Untouched.{UnwrittenStays}
@@ -26,18 +21,14 @@ use Rattle.command_line.specs.Settings.{Settings}
 use Rattle.launch_reading.specs.Launch.{Described, unknown, refuses, describes, words_describe, inputs_with, history_with, IsKnownAs, IsBuiltBy, IfInput, IfTooLong, IsOfTexts, AnswersDescribed}
 use Rattle.elf_image.specs.declared.fault.ElfFault.{ElfFault}
 use Rattle.launch_reading.specs.Refusal.{line_of, status_of, memory_line, input_line, program_line, tree_line, launch_line, too_long_line}
-use Rattle.run_report.specs.Report.{report_of}
-use Rattle.run_report.specs.Summary.{summary_of}
 use Rattle.launch_reading.specs.declared.launch_text.LaunchFault.{LaunchFault}
 use Rattle.launch_reading.specs.declared.refusal.LaunchRefusal.{LaunchRefusal}
 use Rattle.launch_reading.specs.declared.refusal.LaunchRefusal.TheVariants.{Words, Memory}
-use Rattle.launch_run.specs.declared.shown.Shown.{Shown}
-use Rattle.launch_run.specs.declared.shown.Shown.TheVariants.{Report, Summary}
-use Rattle.launch_run.specs.declared.top.Ending.{Ending}
-use Rattle.launch_run.specs.declared.top.Ending.TheVariants as ending
 use Rattle.launch_run.specs.declared.top.Finished.{Finished}
-use Rattle.launch_run.specs.declared.top.RunEnd.{RunEnd}
-use Rattle.launch_run.specs.declared.top.RunEnd.TheVariants.{Reported, StallReported, Unwritten, NotBegun, Lacking}
+use Rattle.book_report.specs.Ends.{IsEndOf, IsOver, IsRecordOf}
+use Rattle.book_report.specs.Shown.{record_report, state_of}
+use Rattle.book_report.specs.declared.ends.RunEnd.{RunEnd}
+use Rattle.book_report.specs.declared.ends.RunEnd.TheVariants.{Reported, StallReported, Unwritten, NotBegun, Lacking}
 use Rattle.launch_run.specs.declared.top.TopEnd.{TopEnd}
 use Rattle.launch_run.specs.declared.top.TopEnd.TheVariants.{Refused, Ran}
 
@@ -52,65 +43,7 @@ status_number (Some Live) = 1
 status_number (Some (Exit code)) = if code == 0 then 0 else 1
 status_number (Some (Killed signal)) = 1
 
--- the record of a run that is over
-abbrev pub recorded : Book → Record
-recorded book = record { launch = book.launch; history = book.history; kept = book.kept }
-
--- the run of the book is over so
-abbrev pub IsOverSo : Ending → Book → Type 0
-IsOverSo ending.Ended book = NoneLive book.kernel
-IsOverSo ending.Stalled book = Stalled book.launch book.history
-
--- the end of a run that is over so, and of which a text was written
-abbrev pub reported_end : Ending → Book → RunEnd
-reported_end ending.Ended book = Reported (recorded book) (get book.kernel.statuses 0)
-reported_end ending.Stalled book = StallReported (recorded book)
-
--- the run is over: it has ended, or it is stalled
-abbrev pub IsOver : Launch → List Entry → Type 0
-IsOver launch history = Ended launch history ⊎ Stalled launch history
-
--- the kernel's state at the end of the record
-abbrev pub state_of : Record → State
-state_of r = (world r.launch r.history).state
-
--- the report of the record, with the history's lines or without
-abbrev pub record_report : Bool → Record → List ℕ
-record_report lines r = report_of (state_of r) r.history lines
-
--- the summary of the record of a run with so many child processes
-abbrev pub record_summary : ℕ → Record → List ℕ
-record_summary processes r = summary_of processes (state_of r) r.history
-
--- whether the history's entries are kept for what is written of a run
-abbrev pub keeps_entries : Shown → Bool
-keeps_entries (Report lines) = lines
-keeps_entries (Summary processes) = true
-
--- what is written of the record of a run that is over
-abbrev pub shown_text : Shown → Record → List ℕ
-shown_text (Report lines) r = record_report lines r
-shown_text (Summary processes) r = record_summary processes r
-
--- A record of a run of the launch: its history is legal, and in memory are its denied calls, and its entries or none of them.
-pub record IsRecordOf (launch : Launch) (all : Bool) (r : Record) : Type 0 where
-  pub launch_is : r.launch ≡ launch
-  pub legal : Legal r.launch r.history
-  pub kept_is : IsKeptOf all r.history r.kept
-
--- How a run of the launch came to its end, where before and after are what the sink shows of its bytes, and rose says
--- that its count of faults rose. The text, such as the report, is of the record of a run that is over, and was written whole, or a prefix
--- of it where the sink failed; where memory ran out, nothing was written of it, and a run that began has an entry.
-abbrev pub IsEndOf : Launch → Bool → (Record → List ℕ) → Option (List ℕ) → Option (List ℕ) → Type 0 → RunEnd → Type 0
-IsEndOf launch all text before after rose (Reported r status) =
-    IsRecordOf launch all r × Ended r.launch r.history × (status ≡ get (state_of r).statuses 0) × (after ≡ grown before (text r))
-IsEndOf launch all text before after rose (StallReported r) =
-    IsRecordOf launch all r × Stalled r.launch r.history × (after ≡ grown before (text r))
-IsEndOf launch all text before after rose (Unwritten r) = IsRecordOf launch all r × IsOver r.launch r.history × rose × GrewByPrefix before after (text r)
-IsEndOf launch all text before after rose NotBegun = after ≡ before
-IsEndOf launch all text before after rose (Lacking r) = IsRecordOf launch all r × (r.history ≢ []) × (after ≡ before)
-
--- the same once the line that says so was written where memory ran out
+-- How a run of the launch came to its end (`IsEndOf`), once the line that says so was written where memory ran out.
 abbrev pub IsReportedEnd : Launch → Bool → (Record → List ℕ) → Option (List ℕ) → Option (List ℕ) → Type 0 → RunEnd → Type 0
 IsReportedEnd launch all text before after rose (Reported r status) = IsEndOf launch all text before after rose (Reported r status)
 IsReportedEnd launch all text before after rose (StallReported r) = IsEndOf launch all text before after rose (StallReported r)

@@ -5,11 +5,12 @@ ghost use Rattle.command_line.specs.Generating.{generate_of, IsGenerateWithin};
 ghost use Rattle.command_line.specs.Settings.{IsWithin, view};
 ghost use Rattle.launch_reading.specs.Launch.{input_limit};
 ghost use Rattle.launch_reading.specs.Refusal.{memory_line, words_line};
-ghost use Rattle.launch_run.specs.TopCall.{Wrote, IsProgramRefused, IsTreeRefused, IsTextRefused, IsKept, IsConfinedRecord, LeavesUnwritten, Completes, HasEndedWith, HasFailedWith, HasStalledWith, record_summary};
+ghost use Rattle.book_report.specs.Shown.{record_summary};
+ghost use Rattle.launch_run.specs.TopCall.{Wrote, IsProgramRefused, IsTreeRefused, IsTextRefused, IsKept, IsConfinedRecord, LeavesUnwritten, Completes, HasEndedWith, HasFailedWith, HasStalledWith};
 ghost use Rattle.launch_run.specs.GeneratedCall.{AreShort, IsGeneratedEnd, IsGeneratedStatus, IsSourceFor, OfGenerated, generated_describe, generated_inputs, processes_in, settings_for};
 
-use crate::shown::Shown;
 use crate::top::{Finished, TopEnd, finish, refused, run_settings};
+use book_report::Shown;
 use command_line::{GenerateSettings, LaunchSettings, read_generate};
 use guest_kit::{Generated, generate};
 use input_output::{INPUT_LIMIT, Sink, SteadySource};

@@ -6,11 +6,8 @@ pub use command_line::asks_to_generate;
 pub use generated::run_generated;
 pub use kernel_cell::Record;
 pub use launch_reading::{Inputs, LaunchFault, LaunchRefusal, plan_text, read_launch};
-pub use laws::{report_needs_kept_entries, reports_differ_in_tree};
 pub use process_cell::{Gate, OpenGate};
 pub use top::{Finished, run_launch};
 
 mod generated;
-mod laws;
-mod shown;
 mod top;

@@ -6,17 +6,17 @@ ghost use Rattle.command_line.specs.Reading.{words_of};
 ghost use Rattle.launch_reading.specs.Launch.{launch_of, inputs_of, settings_inputs, asks_history};
 ghost use Rattle.launch_reading.specs.Refusal.{line_of, words_line, memory_line};
 ghost use Rattle.call_codec.specs.Bounded.{IsBounded};
-ghost use Rattle.kernel_cell.specs.Cell.{IsBookOf};
-ghost use Rattle.launch_run.specs.TopCall.{Wrote, IsOverSo, IsEndOf, IsReportedEnd, ReportsEnd, IsTopEnd, IsTopStatus, keeps_entries, record_report, shown_text, IsInputRefused, IsProgramRefused, IsTreeRefused, IsTextRefused, HasReported, HasStalled, HasFailed, IsKept, IsConfinedRecord, LeavesUnwritten, Completes, status_number, recorded, reported_end, finished_run, finished_of};
+ghost use Rattle.book_report.specs.Ends.{IsEndOf};
+ghost use Rattle.book_report.specs.Shown.{keeps_entries, record_report, shown_text};
+ghost use Rattle.launch_run.specs.TopCall.{Wrote, IsReportedEnd, ReportsEnd, IsTopEnd, IsTopStatus, IsInputRefused, IsProgramRefused, IsTreeRefused, IsTextRefused, HasReported, HasStalled, HasFailed, IsKept, IsConfinedRecord, LeavesUnwritten, Completes, status_number, finished_run, finished_of};
 ghost use Rattle.launch_run.specs.declared.top.TopEnd.TheVariants.{Refused};
 
-use crate::shown::Shown;
 use abi_types::Status;
+use book_report::{Ending, RunEnd, Shown, record_of, report_run};
 use command_line::{CommandLineFault, LaunchSettings, read_words};
 use drive_run::{Driven, drive};
-use guest_process::FIRST;
-use input_output::{Sink, Source, write_whole};
-use kernel_cell::{Book, Record};
+use input_output::{Sink, Source};
+use kernel_cell::Record;
 use launch_reading::{LaunchRefusal, read_launch};
 use process_cell::Gate;
 use run_types::Launch;
@@ -31,30 +31,6 @@ pub struct Finished {
     pub kept: Option<Record>,
 }
 
-/// How the run of a launch ended.
-#[derive(Drop)]
-pub enum RunEnd {
-    /// It ended and what is shown of it was written; process 0 stands so.
-    Reported(Record, Option<Status>),
-    /// It stalled and what is shown of it was written.
-    StallReported(Record),
-    /// It ended or stalled, and the sink failed while what is shown of it was written.
-    Unwritten(Record),
-    /// Memory ran out before the run began.
-    NotBegun,
-    /// Memory ran out, and this was recorded until then.
-    Lacking(Record),
-}
-
-/// How a run is over.
-#[derive(Clone, Copy)]
-pub enum Ending {
-    /// No process is live.
-    Ended,
-    /// All threads wait, and nothing can happen any more.
-    Stalled,
-}
-
 // The exit status for process 0's status: 0 where it exited with 0, else 1.
 fn status_number(status: Option<Status>) -> u8
     ensures { result ≡ status_number status }
@@ -62,58 +38,6 @@ fn status_number(status: Option<Status>) -> u8
     match status {
         Some(Status::Exit(0)) => 0,
         _ => 1,
-    }
-}
-
-// The record of a run that is over.
-fn record_of(book: Book) -> Record
-    ensures { result ≡ recorded book }
-{
-    let Book {
-        kernel: _,
-        launch,
-        history,
-        kept,
-    } = book;
-    Record {
-        launch,
-        history,
-        kept,
-    }
-}
-
-// The end of a run of which what is shown was written.
-fn reported_end(book: Book, ending: Ending) -> RunEnd
-    ensures { result ≡ reported_end ending book }
-{
-    match ending {
-        Ending::Ended => {
-            let status = book.kernel.status(FIRST);
-            RunEnd::Reported(record_of(book), status)
-        }
-        Ending::Stalled => RunEnd::StallReported(record_of(book)),
-    }
-}
-
-// Writes what is shown of a run that is over.
-fn report_run<K: Sink>(
-    alloc: Global,
-    book: Book,
-    ending: Ending,
-    shown: Shown,
-    sink: &mut K,
-) -> RunEnd
-    requires of { IsBookOf book.launch (keeps_entries shown) book }
-    requires over { IsOverSo ending book }
-    ensures faults_never_fall { K.faults sink.old ≤ K.faults sink.new }
-    ensures end { IsEndOf book.launch (keeps_entries shown) (shown_text shown) (K.written sink.old) (K.written sink.new) (Rose (K.faults sink.old) (K.faults sink.new)) result }
-{
-    let Ok(text) = shown.text(alloc, &book) else {
-        return RunEnd::Lacking(record_of(book));
-    };
-    match write_whole(sink, text.as_slice()) {
-        Ok(()) => reported_end(book, ending),
-        Err(_) => RunEnd::Unwritten(record_of(book)),
     }
 }
 

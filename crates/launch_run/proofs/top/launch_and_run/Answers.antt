@@ -3,7 +3,8 @@ use Rattle.std.specs.Prelude.{Option}
 use Rattle.input_output.specs.Source.{Rose}
 use Rattle.command_line.specs.Settings.{Settings}
 use Rattle.launch_reading.specs.Launch.{history_with}
-use Rattle.launch_run.specs.TopCall.{IsTopEnd, record_report}
+use Rattle.launch_run.specs.TopCall.{IsTopEnd}
+use Rattle.book_report.specs.Shown.{record_report}
 use Rattle.launch_run.proofs.top.launch_and_run.Goals as goal
 
 pub returns-in-Ok-clause-end : goal.returns-in-Ok-clause-end

@@ -1,4 +1,4 @@
-use Rattle.launch_run.specs.TopCall.{keeps_entries, shown_text}
+use Rattle.book_report.specs.Shown.{keeps_entries, shown_text}
 use Rattle.launch_run.proofs.LastLines.{ends_reported}
 use Rattle.launch_run.proofs.top.run_reported.Goals as goal
 

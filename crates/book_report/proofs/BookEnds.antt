@@ -18,11 +18,12 @@ use Rattle.run_model.proofs.Histories.{world_none, first_state, first_thread}
 use Rattle.kernel_cell.specs.Cell.{IsBookOf}
 use Rattle.kernel_cell.specs.declared.cell.Book.{Book}
 use Rattle.kernel_cell.specs.declared.record.Record.{Record}
-use Rattle.launch_run.specs.declared.top.Ending.{Ending}
-use Rattle.launch_run.specs.declared.top.Ending.TheVariants as ending
-use Rattle.launch_run.specs.declared.top.RunEnd.{RunEnd}
-use Rattle.launch_run.specs.declared.top.RunEnd.TheVariants.{Unwritten, Lacking}
-use Rattle.launch_run.specs.TopCall.{IsOver, IsOverSo, IsRecordOf, IsEndOf, recorded, reported_end}
+use Rattle.book_report.specs.declared.ends.Ending.{Ending}
+use Rattle.book_report.specs.declared.ends.Ending.TheVariants as ending
+use Rattle.book_report.specs.declared.ends.RunEnd.{RunEnd}
+use Rattle.book_report.specs.declared.ends.RunEnd.TheVariants.{Unwritten, Lacking}
+use Rattle.book_report.specs.Ends.{IsOver, IsOverSo, IsRecordOf, IsEndOf, reported_end}
+use Rattle.book_report.specs.Shown.{recorded}
 
 -- a book of a launch is of its own
 pub of_itself : (launch : Launch) (lines : Bool) (book : Book) → IsBookOf launch lines book → IsBookOf book.launch lines book

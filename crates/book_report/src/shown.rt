@@ -1,7 +1,7 @@
 //! What is written of a run that is over.
 ghost use Rattle.std.specs.Prelude.{◌≡◌, IfOk};
 ghost use Rattle.kernel_cell.specs.Cell.{IsBookOf};
-ghost use Rattle.launch_run.specs.TopCall.{keeps_entries, recorded, shown_text};
+ghost use Rattle.book_report.specs.Shown.{keeps_entries, recorded, shown_text};
 
 use abi_types::Bytes;
 use kernel_cell::Book;
@@ -19,7 +19,7 @@ pub enum Shown {
 
 impl Shown {
     /// Whether the history's entries are kept for it.
-    pub(crate) fn keeps_entries(self) -> bool
+    pub fn keeps_entries(self) -> bool
         ensures { result ≡ keeps_entries self }
     {
         match self {
@@ -29,7 +29,7 @@ impl Shown {
     }
 
     /// The text, by the book of the run.
-    pub(crate) fn text(self, alloc: Global, book: &Book) -> Result<Bytes, AllocError>
+    pub fn text(self, alloc: Global, book: &Book) -> Result<Bytes, AllocError>
         requires { IsBookOf book.now.launch (keeps_entries self) book.now }
         ensures { IfOk result (λ text. text ≡ shown_text self (recorded book.now)) }
     {

@@ -12,9 +12,9 @@ use Rattle.run_report.specs.Report.{AreOf, asked_history, report_of}
 use Rattle.run_report.specs.Summary.{summary_of}
 use Rattle.kernel_cell.specs.Cell.{IsBookOf}
 use Rattle.kernel_cell.specs.declared.cell.Book.{Book}
-use Rattle.launch_run.specs.TopCall.{keeps_entries, record_report, record_summary, recorded, shown_text}
-use Rattle.launch_run.specs.declared.shown.Shown.{Shown}
-use Rattle.launch_run.specs.declared.shown.Shown.TheVariants.{Report, Summary}
+use Rattle.book_report.specs.Shown.{keeps_entries, record_report, record_summary, recorded, shown_text}
+use Rattle.book_report.specs.declared.shown.Shown.{Shown}
+use Rattle.book_report.specs.declared.shown.Shown.TheVariants.{Report, Summary}
 
 -- what is kept of a history is what its report is written of
 pub kept_are_of : (log : List Entry) (all : Bool) (kept : Kept) → IsKeptOf all log kept → AreOf log all kept.denied.items kept.entries.items

@@ -11,7 +11,7 @@ use Rattle.kernel_model.specs.State.{State, tree_of, written_in, written_to}
 use Rattle.run_model.specs.World.{World, world}
 use Rattle.run_report.specs.Denials.{denials_text}
 use Rattle.run_report.specs.Report.{asked_history, end_text, report_of, status_text, stream_text, tree_text}
-use Rattle.launch_run.specs.AlikeReports.{DifferInTree, ReportsDifferInTree}
+use Rattle.book_report.specs.AlikeReports.{ReportsDifferInTree}
 use Rattle.confinement_laws.specs.Alike.{IsSameButBeyond}
 use Rattle.confinement_laws.proofs.AlikeRuns.{launches_run_alike}
 

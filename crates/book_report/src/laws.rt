@@ -1,6 +1,6 @@
 //! Laws of reports. Their statements are in `specs/KeptReports.antt` and `specs/AlikeReports.antt`.
-ghost use Rattle.launch_run.specs.AlikeReports.{ReportsDifferInTree};
-ghost use Rattle.launch_run.specs.KeptReports.{ReportNeedsKept};
+ghost use Rattle.book_report.specs.AlikeReports.{ReportsDifferInTree};
+ghost use Rattle.book_report.specs.KeptReports.{ReportNeedsKept};
 
 /// Histories of which a run keeps the same in memory have the same report: without the history's lines a report is written of denied
 /// calls alone.

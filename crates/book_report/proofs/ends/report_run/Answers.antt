@@ -1,7 +1,7 @@
 use Rattle.std.proofs.Common.{◌≡◌, ◌∙◌, refl}
-use Rattle.launch_run.specs.TopCall.{keeps_entries, recorded, shown_text}
-use Rattle.launch_run.proofs.TopCalls.{reported, unreported, unwritten}
-use Rattle.launch_run.proofs.top.report_run.Goals as goal
+use Rattle.book_report.specs.Shown.{keeps_entries, recorded, shown_text}
+use Rattle.book_report.proofs.BookEnds.{reported, unreported, unwritten}
+use Rattle.book_report.proofs.ends.report_run.Goals as goal
 
 pub returns-in_default-clause-end : goal.returns-in_default-clause-end
 returns-in_default-clause-end g c =

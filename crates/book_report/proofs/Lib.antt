@@ -1,0 +1,3 @@
+pub mod BookEnds
+pub mod KeptReports
+pub mod AlikeReports

@@ -1,0 +1,4 @@
+pub mod Shown
+pub mod Ends
+pub mod KeptReports
+pub mod AlikeReports

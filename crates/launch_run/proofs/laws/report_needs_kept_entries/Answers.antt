@@ -1,5 +1,0 @@
-use Rattle.launch_run.proofs.KeptReports.{report_needs_kept}
-use Rattle.launch_run.proofs.laws.report_needs_kept_entries.Goals as goal
-
-pub returns : goal.returns
-returns c = report_needs_kept
