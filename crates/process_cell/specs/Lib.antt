@@ -4,3 +4,4 @@ pub mod Codes
 pub mod Places
 pub mod Process
 pub mod Steps
+pub mod Driven

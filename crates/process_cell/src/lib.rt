@@ -1,11 +1,16 @@
-//! A process of a run, as whoever runs it has it, and the gate by which its way can be watched.
+//! The run of a launch by workers, each a thread: the processes behind their memory locks, the gate by which their way can be watched, and the
+//! run from its begin to the book that is closed once the workers are done.
 #![tactic(auto)]
 
 pub use gate::{Gate, OpenGate};
 pub use process::Process;
 pub use results::{Did, Doing, Phase};
+pub use run::{Driven, drive};
 
 mod gate;
 mod place;
 mod process;
 mod results;
+mod run;
+mod tickets;
+mod workers;

@@ -2,11 +2,12 @@
 ghost use Rattle.std.specs.Prelude.{◌≡◌};
 ghost use Rattle.call_codec.specs.Bounded.{IsBounded};
 ghost use Rattle.kernel_cell.specs.Cell.{IsBookOf};
-ghost use Rattle.drive_run.specs.Driven.{ComesOut, IsDriven};
+ghost use Rattle.process_cell.specs.Driven.{ComesOut, IsDriven};
 
+use crate::gate::Gate;
+use crate::process::Process;
 use crate::workers::run_process;
 use kernel_cell::{Begun, Book, Naming};
-use process_cell::{Gate, Process};
 use run_types::Launch;
 use std::alloc::Global;
 use std::marker::Brand;

@@ -1,10 +1,11 @@
 //! The tickets of a run's threads, and what workers tell the board of them.
 ghost use Rattle.std.specs.Prelude.{◌≡◌};
 
+use crate::process::Process;
+use crate::results::Did;
 use abi_types::{Pid, Tid};
 use kernel_cell::{Idled, Naming, Times};
 use kernel_core::Wakes;
-use process_cell::{Did, Process};
 use std::alloc::{AllocError, Global};
 use std::sync::{Arc, Mutex};
 use turn_queue::{Back, Board, Passed, SharedTicket, Ticket};

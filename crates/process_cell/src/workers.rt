@@ -1,9 +1,11 @@
 //! The workers of a run. Each takes a ticket, takes turns of its thread, and gives it back. Where all threads wait, one worker lets time
 //! go on.
+use crate::gate::Gate;
+use crate::process::Process;
+use crate::results::{Did, Phase};
 use crate::tickets::{Done, ThreadTicket};
 use guest_process::FIRST_THREAD;
 use kernel_cell::{Cell, Naming};
-use process_cell::{Did, Gate, Phase, Process};
 use std::alloc::Global;
 use std::sync::{Condvar, Mutex, Wait};
 use std::thread;
