@@ -2,12 +2,8 @@
 //! a program and its inputs, runs it, and prints a summary.
 #![tactic(auto)]
 
-mod file_source;
-mod out_sink;
-
-use file_source::FileSource;
+use host_files::{FileSource, OutSink};
 use launch_run::{LaunchRefusal, OpenGate, asks_to_generate, run_generated, run_launch};
-use out_sink::OutSink;
 use std::process::ExitCode;
 use std::rt::Env;
 use std::{env, fs, io};
