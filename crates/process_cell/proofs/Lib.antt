@@ -2,4 +2,4 @@ pub mod Places
 pub mod Alone
 pub mod Ties
 pub mod Outcomes
-pub mod Driven
+pub mod RunOutcomes

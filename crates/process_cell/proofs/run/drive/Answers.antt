@@ -1,7 +1,7 @@
 use Rattle.std.proofs.Common.{Bool, subst}
 use Rattle.run_types.specs.declared.launch.Launch.{Launch}
 use Rattle.kernel_cell.specs.Cell.{IsBookOf}
-use Rattle.process_cell.proofs.Driven.{driven_is}
+use Rattle.process_cell.proofs.RunOutcomes.{driven_is}
 use Rattle.process_cell.proofs.run.drive.Goals as goal
 
 pub returns-in-Ok : goal.returns-in-Ok
