@@ -25,18 +25,26 @@ def crates(top):
 def functions(folder):
     """All functions of a crate, file by file. `folder` is the crate's folder."""
     folder = pathlib.Path(folder)
-    texts = {module_of(file, folder): (file, file.read_text()) for file in sorted((folder / "src").rglob("*.rt"))}
-    opened, named = exported_names({module: text for module, (_, text) in texts.items()})
-    types = {name for module, (_, text) in texts.items() for name in TYPE.findall(text) if module in opened or (module, name) in named}
-    for module, (file, text) in texts.items():
+    files = {module_of(file, folder): file for file in sorted((folder / "src").rglob("*.rt"))}
+    texts = {module: file.read_text() for module, file in files.items()}
+    exports = exported_names(texts)
+    types = {name for module, text in texts.items() for name in TYPE.findall(text) if is_reached(module, name, exports)}
+    for module, text in texts.items():
         for found in FUNCTION.finditer(text):
-            owner, trait, of_trait = owner_of(text, found.start()) if found["indent"] else (None, None, False)
-            shown = types & {owner, trait} if owner else found["pub"] and (module in opened or (module, found["name"]) in named)
-            shown = bool(shown) and (bool(found["pub"]) or of_trait or found["name"] == "main")
-            name = f"{owner}::{found['name']}" if owner else found["name"]
+            name, trait, exported = found["name"], None, bool(found["pub"]) and is_reached(module, found["name"], exports)
+            if found["indent"]:
+                owner, trait, is_open = owner_of(text, found.start())
+                name, exported = f"{owner}::{name}", bool(types & {owner, trait}) and (is_open or bool(found["pub"]))
+            elif name == "main" and files[module].name == "main.rt":
+                exported = True
             line = text.count("\n", 0, found.start()) + 1
-            is_main = name == "main" and file.name == "main.rt"
-            yield Function(name, str(file.relative_to(folder)), line, shown or is_main, trait, *clauses_of(text, found.end()))
+            yield Function(name, str(files[module].relative_to(folder)), line, exported, trait, *clauses_of(text, found.end()))
+
+
+def is_reached(module, name, exports):
+    """Whether a public item of a module can be named from outside of the crate."""
+    opened, named = exports
+    return module in opened or (module, name) in named
 
 
 def module_of(file, folder):
@@ -46,7 +54,7 @@ def module_of(file, folder):
 
 
 def owner_of(text, place):
-    """Of a function that stands in a block: the type, or the trait that declares it; the trait of an `impl`, or None; and whether it is a trait's."""
+    """Of a function in a block: the type, or the trait that declares it; the trait of an `impl`, or None; whether it needs no `pub`, as a trait's."""
     block = next(block for block in BLOCK.finditer(text) if block.start() < place < block.end())
     head = block["head"]
     while "<" in head:
