@@ -4,8 +4,9 @@ import re
 from .documents import cells_of, line_at
 
 FUNCTION = r"`(\w+(?:::\w+)?)`"
-CITE = re.compile(rf"(?:\b(law) )?{FUNCTION}(?:: (`\w+`(?:, `\w+`)*))?")
-IN_PROSE = re.compile(rf"(?:\b(law)\s)?{FUNCTION}:\s(`\w+`(?:,\s`\w+`)*)|\b(law)\s{FUNCTION}")
+CLAUSES = r"`\w+`(?!:)(?:(?:,| and|, and)\s`\w+`(?!:))*"
+CITE = re.compile(rf"(?:law )?{FUNCTION}(?:: ({CLAUSES}))?")
+IN_PROSE = re.compile(rf"(?:\b(law)\s)?{FUNCTION}:\s({CLAUSES})|\b(law)\s{FUNCTION}")
 DEFINED = re.compile(r"((?:`[^`\s]+(?: [^`]*)?`(?:,\s|\sand\s|,\sand\s))*`[^`\s]+(?: [^`]*)?`)\s\((`[\w/.-]+\.(?:antt|rt|h|c)`(?:,\s`[\w/.-]+`)*)[,)]")
 ITEM = r"(?:pub(?:\(\w+\))? )?(?:unsafe )?(?:const )?(?:fn|struct|enum|trait|const|type|mod|static)"
 
@@ -33,11 +34,7 @@ def check_row(document, block, tree, findings):
     for part in re.split(r";\s*", row["contract"]):
         found = CITE.match(part)
         if found:
-            check_cite(document, block.line, tree, findings, found[2], found[3], crates)
-            known = functions_of(tree, found[2], crates)
-            if known:
-                says = any(function.ensures or function.trait for _, function in known)
-                findings.check(says, document, block.line, f"{found[2]} promises nothing")
+            check_cite(document, block.line, tree, findings, found[1], found[2], crates)
 
 
 def functions_of(tree, name, crates):
@@ -46,21 +43,20 @@ def functions_of(tree, name, crates):
 
 
 def check_cite(document, line, tree, findings, name, clauses, crates):
-    """One cite: the function is there, is exported, and has the clauses."""
+    """One cite: the function is there, is exported, promises something, and has the clauses. Of one in an `impl` of a trait holds what the
+    trait's function promises."""
     where = f" in {' or '.join(crates)}" if crates else ""
     found = functions_of(tree, name, crates)
     exported = [function for _, function in found if function.exported]
     fault = "" if exported else f"{name}{where} is not exported" if found else f"no function {name}{where}"
     findings.check(not fault, document, line, fault)
-    of_traits = [other for function in exported if function.trait for other in of_trait(tree, function)]
-    for clause in re.findall(r"\w+", clauses or "") if exported else ():
-        good = any(clause in function.ensures for function in [*exported, *of_traits])
-        findings.check(good, document, line, f"{name}{where} has no clause {clause}")
-
-
-def of_trait(tree, function):
-    """The function of a trait that this one is, where the trait is one of the crates: what it promises holds of this one too."""
-    return [other for _, other in tree.functions.get(f"{function.trait}::{function.name.rpartition('::')[2]}", ())]
+    if exported:
+        of_traits = (f"{function.trait}::{name.rpartition('::')[2]}" for function in exported if function.trait)
+        known = exported + [function for trait in of_traits for _, function in functions_of(tree, trait, [])]
+        says = any(function.ensures or function.trait for function in known)
+        findings.check(says, document, line, f"{name}{where} promises nothing")
+        for clause in re.findall(r"`(\w+)`", clauses or ""):
+            findings.check(any(clause in function.ensures for function in known), document, line, f"{name}{where} has no clause {clause}")
 
 
 def check_definitions(document, tree, findings):
@@ -97,7 +93,8 @@ def defines(text, file, name):
     if file.endswith(".antt"):
         item = rf"\s*(?:(?:pub|abbrev|unfoldable|record|data|module|private|opaque) )+{last}(?![\w'])|\s+{last} :"
     elif file.endswith(".rt"):
-        item = rf"\s*{ITEM} {last}\b|\s+(?:pub(?:\(\w+\))? )?{last}\b ?(?:[:,({{=]|$)"
+        case = "|,|\\(| \\{" if last[0].isupper() else ""
+        item = rf"\s*{ITEM} {last}\b|\s+(?:pub(?:\(\w+\))? )?{last}(?::{case})"
     else:
         item = rf".*(?<!\w){last}(?!\w)"
     return re.search(rf"^(?:{item})", text, re.M) is not None

@@ -9,17 +9,14 @@ LINK = re.compile(r"!?\[((?:[^\[\]]|\[[^\]]*\])*)\]\(<?([^()\s>]*)>?(?: \"[^\"]*
 
 # `kind` is prose, heading, row or code; `header` has the cells of a table's first row, where the block is another row of it.
 Block = collections.namedtuple("Block", "kind line text header")
-# What stands in backticks: its place in the block's text, and where it ends.
-Span = collections.namedtuple("Span", "text begin end")
 
 
 class Document:
-    """A document: its name from the top of the tree, its lines, and its blocks."""
+    """A document: its name from the top of the tree, its text and its blocks."""
 
     def __init__(self, name, text):
         self.name, self.text = name, text
-        self.lines = text.split("\n")
-        self.blocks = list(blocks_of(self.lines))
+        self.blocks = list(blocks_of(text.split("\n")))
 
     def anchors(self):
         """The anchors of its headings, by GitHub's rule."""
@@ -64,8 +61,8 @@ def cells_of(row):
 
 
 def spans_of(text):
-    """What stands in backticks in a block's text."""
-    return [Span(found[2].replace("\\|", "|").strip(), found.start(), found.end()) for found in CODE.finditer(text)]
+    """What stands in backticks in a block's text, with the places where it begins."""
+    return [(found[2].replace("\\|", "|").strip(), found.start()) for found in CODE.finditer(text)]
 
 
 def line_at(block, place):

@@ -17,12 +17,12 @@ def check_names(document, tree, findings):
     """Checks each name in backticks of a document, and of several words those that are paths from the top."""
     for block in document.blocks:
         if block.kind != "code":
-            for span in spans_of(block.text):
-                words = span.text.split()
+            for text, begin in spans_of(block.text):
+                words = text.split()
                 for word in words if len(words) == 1 else filter(is_path, words):
                     fault = fault_of(word, tree)
                     if fault is not None:
-                        findings.check(not fault, document, line_at(block, span.begin), fault)
+                        findings.check(not fault, document, line_at(block, begin), fault)
 
 
 def is_path(word):
@@ -60,6 +60,6 @@ def fault_of_words(text, tree):
     if absent and not known:
         return f"{absent[0]} is not in the sources"
     pair = QUALIFIED.fullmatch(text)
-    if pair and not known and not tree.has_pair(*pair.groups()):
+    if pair and not known and not any(tree.has_text(mark.join(pair.groups())) for mark in ("::", ".")):
         return f"{text} is not in the sources"
     return "" if words else None

@@ -5,13 +5,13 @@ import pathlib
 import re
 import shutil
 
-from sources import crates, functions
+from sources import functions
 
 FOLDERS = ("crates", "tools", "guest", "cases", "bench", "examples")
 ALONE = ("crates.txt", "cloudabi-run", "HANDLES")
 WORD = re.compile(rb"[A-Za-z_][A-Za-z0-9_]*")
 NAME = re.compile(rb"[\w-]")
-BINARY = (".elf", ".o", ".a", ".png")
+NO_SOURCE = (".elf", ".o", ".a", ".md")
 
 
 class Tree:
@@ -73,15 +73,11 @@ class Tree:
                 return True
         return False
 
-    def has_pair(self, owner, name):
-        """Whether a name of a type, a module or a value stands in the sources with it."""
-        return self.has_text(f"{owner}::{name}") or self.has_text(f"{owner}.{name}")
-
     @functools.cached_property
     def functions(self):
         """The functions of all crates by name, each with its crate."""
         found = {}
-        for crate in crates(self.top):
+        for crate in self.uses:
             for function in functions(self.top / "crates" / crate):
                 found.setdefault(function.name, []).append((crate, function))
         return found
@@ -89,15 +85,14 @@ class Tree:
     @functools.cached_property
     def kit_words(self):
         """The words of the kit's crates that crates.txt lists."""
-        command = shutil.which("rt")
-        kit = pathlib.Path(os.path.realpath(command or "rt")).parent.parent / "rattle"
+        kit = pathlib.Path(os.path.realpath(shutil.which("rt") or "rt")).parent.parent / "rattle"
         names = {name for those in self.uses.values() for name in those} - set(self.uses)
         files = [file for name in names for part in ("src", "specs") for file in (kit / name / part).rglob("*") if file.is_file()]
         return {word.decode() for file in files for word in WORD.findall(file.read_bytes())} | names
 
 
 def is_source(name):
-    return (name.split("/")[0] in FOLDERS or name in ALONE) and not name.endswith(BINARY) and not name.endswith(".md")
+    return (name.split("/")[0] in FOLDERS or name in ALONE) and not name.endswith(NO_SOURCE)
 
 
 def ignored_of(top):
