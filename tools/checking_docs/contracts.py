@@ -30,7 +30,7 @@ def check_contracts(document, tree, findings):
 def check_row(document, block, tree, findings):
     """The same of a row of a table of contracts."""
     row = dict(zip(block.header, cells_of(block.text)))
-    crates = [name for name in re.findall(r"`(\w+)`", row.get("crate", "")) if name in tree.uses]
+    crates = re.findall(r"`(\w+)`", row.get("crate", ""))
     for part in re.split(r";\s*", row["contract"]):
         found = CITE.match(part)
         if found:
