@@ -4,7 +4,7 @@
 --     done_of      it was done or memory ran out, each told apart
 --     answered_as, done_as      it comes to the same
 --     replied_seen, done_seen, done_at      what is so of the state as it is kept, and of the table that was found there, is so as they are seen
-use Rattle.std.proofs.Common.{◌≡◌, ℕ, Bool, true, Some, Result, Ok, Err, IfOk, OnErr, IsErr, refl, sym, ap, subst, ◌∙◌}
+use Rattle.std.proofs.Common.{◌≡◌, ℕ, Bool, true, Some, Result, Ok, Err, IfOk, OnErr, IsErr, sym, ap, subst, ◌∙◌}
 use Rattle.std.specs.FinMap.{get}
 use Rattle.std.specs.declared.alloc.AllocError.{AllocError}
 use Rattle.abi_types.specs.declared.reply.Answer.{Answer}

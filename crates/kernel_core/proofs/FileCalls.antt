@@ -30,7 +30,7 @@ use Rattle.kernel_model.specs.Families.ClockCalls.{real_time}
 use Rattle.kernel_model.specs.Families.FileCalls.{file_meaning, file_fd}
 use Rattle.kernel_model.specs.Families.FileMeaning.{open_of}
 use Rattle.kernel_model.specs.Meaning.{Meaning}
-use Rattle.kernel_model.specs.Outcome.{Outcome, replies}
+use Rattle.kernel_model.specs.Outcome.{replies}
 use Rattle.kernel_model.specs.Release.{release}
 use Rattle.kernel_model.specs.Reply.{refused}
 use Rattle.kernel_model.specs.State.{State, Table, Tree, tree_of, Update, put_all, put_one, set_node, set_names}

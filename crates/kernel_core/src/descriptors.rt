@@ -67,7 +67,7 @@ impl Kernel {
         requires replaced { (table : Table) → map.get self.old.tables pid ≡ Some table → HasReplaced table change }
         ensures { (table : Table) → map.get self.old.tables pid ≡ Some table
             → IsDone (takes_memory (call_of_change change)) (change_outcome pid self.old.opens table change)
-                self.old self.new result }
+            self.old self.new result }
     {
         let p = u64::from(pid.0);
         let reply = change_table(self.tables.get_mut(p), &mut self.objects, change)?;

@@ -83,7 +83,7 @@ impl Kernel {
         requires valid { IsValid self.old }
         ensures { (table : Table) → map.get self.old.tables who.now.pid ≡ Some table
             → IsDone true (model.create (model.made_of kind) who.now.pid who.now.tid (map.get self.old.processes who.now.pid) table)
-                self.old self.new result }
+            self.old self.new result }
     {
         let Some(kind) = pair_of(kind) else {
             return Ok(Answer::Reply(refused(Errno::Notsup)));

@@ -30,7 +30,7 @@ impl Kernel {
         requires early { self.old.clock + constants.now.epoch < 2 ^ 64 }
         ensures { (table : Table) → map.get self.old.tables pid ≡ Some table
             → IsDone (takes_memory (call_of_entry call.entry))
-                (entry_outcome constants.now self.old pid table fd other (call_of_entry call.entry)) self.old self.new result }
+            (entry_outcome constants.now self.old pid table fd other (call_of_entry call.entry)) self.old self.new result }
     {
         let Some((_, here)) = open_of(&self.tables, &self.objects, pid, fd) else {
             return Ok(Answer::Reply(refused(Errno::Badf)));

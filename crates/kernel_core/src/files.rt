@@ -28,7 +28,7 @@ impl Kernel {
         requires early { self.old.clock + constants.now.epoch < 2 ^ 64 }
         ensures { (table : Table) → map.get self.old.tables pid ≡ Some table
             → IsDone (takes_memory (call_of_file call.entry))
-                (file_outcome constants.now self.old table fd (call_of_file call.entry)) self.old self.new result }
+            (file_outcome constants.now self.old table fd (call_of_file call.entry)) self.old self.new result }
     {
         let Some((_, kind)) = open_of(&self.tables, &self.objects, pid, fd) else {
             return Ok(Answer::Reply(refused(Errno::Badf)));

@@ -64,7 +64,7 @@ impl Kernel {
         requires valid { IsValid self.old }
         ensures { (table : Table) → map.get self.old.tables who.now.pid ≡ Some table
             → IsDone true (fork_at left who.now.pid who.now.tid (map.get self.old.processes who.now.pid) table (lowest_free table))
-                self.old self.new result }
+            self.old self.new result }
     {
         let plan = match self.plan_fork(who, left) {
             Ok(plan) => plan,

@@ -61,8 +61,8 @@ impl Kernel {
         requires early { self.old.clock + constants.now.epoch < 2 ^ 64 }
         ensures { (table : Table) → map.get self.old.tables pid ≡ Some table
             → IsDone true
-                (open_outcome (real_time constants.now self.old.clock) self.old pid table call.now.lookup call.now.path.now call.now.oflags call.now.stat)
-                self.old self.new result }
+            (open_outcome (real_time constants.now self.old.clock) self.old pid table call.now.lookup call.now.path.now call.now.oflags call.now.stat)
+            self.old self.new result }
     {
         let opening = match self.plan_opening(pid, call) {
             Ok(opening) => opening,

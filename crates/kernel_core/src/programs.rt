@@ -172,7 +172,7 @@ impl Kernel {
         requires valid { IsValid self.old }
         ensures { (table : Table) → map.get self.old.tables who.now.pid ≡ Some table
             → IsDone true (exec_outcome constants.now.key self.old who.now.pid who.now.tid table fd fds.now)
-                self.old self.new result }
+            self.old self.new result }
     {
         let NewProgram { elf, canary, table } = match self.plan_exec(constants, who, fd, fds)? {
             Ok(new) => new,

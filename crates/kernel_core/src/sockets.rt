@@ -36,7 +36,7 @@ impl Kernel {
         requires there { IsSome (map.get self.old.statuses pid) }
         ensures { (table : Table) → map.get self.old.tables pid ≡ Some table
             → IsDone (takes_memory (call_of_socket call.entry))
-                (socket_on self.old pid table (fd_of_socket call.entry) (call_of_socket call.entry)) self.old self.new result }
+            (socket_on self.old pid table (fd_of_socket call.entry) (call_of_socket call.entry)) self.old self.new result }
     {
         let fd = socket_fd(call);
         let Some((_, kind)) = open_of(&self.tables, &self.objects, pid, fd) else {

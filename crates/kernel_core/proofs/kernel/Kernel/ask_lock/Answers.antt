@@ -1,4 +1,4 @@
-use Rattle.std.proofs.Common.{Some, IsSome, Ok, is_some, sym, ap, subst, ◌∙◌}
+use Rattle.std.proofs.Common.{IsSome, Ok, is_some, sym, ap, subst, ◌∙◌}
 use Rattle.std.specs.FinMap.{get, insert}
 use Rattle.abi_types.specs.declared.who.Who.{Who}
 use Rattle.kernel_model.specs.Families.LockCalls.{waited_outcome}

@@ -1,4 +1,4 @@
-use Rattle.std.proofs.Common.{◌≡◌, ◌+◌, Some, Ok, ap, sym, ◌∙◌}
+use Rattle.std.proofs.Common.{◌+◌, Some, Ok, ap, sym, ◌∙◌}
 use Rattle.std.specs.FinMap.{get}
 use Rattle.abi_types.specs.Families.{call_of_file}
 use Rattle.abi_types.specs.declared.reply.Answer.TheVariants as answer
@@ -55,9 +55,11 @@ returns d = λ table here.
     done_at S d.args.self.now d.self.view_is (takes_memory called) (λ X t. file_outcome constants X t d.args.fd called) d.args.pid f.table table
     (with_tree S d.on_open.new.tree) (Ok given) f.there here
     (answered_as _ (file_outcome constants S f.table d.args.fd called) S (with_tree S d.on_open.new.tree) given
-    (file_comes constants S f.table d.args.fd called d.in-Some.kind (found_kind S d.args.pid d.args.fd d.in-Some.field-0-0 d.in-Some.kind f f.table f.there))
-    (d.in_ok-reply.ensures.ok.0, done_released called d.args.fd (S.clock + constants.epoch) d.requires.on S d.in-Some.field-0-0.id d.in-Some.kind f.opened
-    d.self.invariant.valid d.on_open.new.tree d.in_ok-reply.ensures.ok.1 d.in_ok-reply.ensures.nodes))
+    (file_comes constants S f.table d.args.fd called d.in-Some.kind (found_kind S d.args.pid d.args.fd d.in-Some.field-0-0 d.in-Some.kind f f.table f.there)) (
+      d.in_ok-reply.ensures.ok.0,
+      done_released called d.args.fd (S.clock + constants.epoch) d.requires.on S d.in-Some.field-0-0.id d.in-Some.kind f.opened
+          d.self.invariant.valid d.on_open.new.tree d.in_ok-reply.ensures.ok.1 d.in_ok-reply.ensures.nodes,
+    ))
 
 pub returns-in_err-reply : goal.returns-in_err-reply
 returns-in_err-reply d = λ table here.
