@@ -1,4 +1,5 @@
 pub mod Kernel
+pub mod Done
 pub mod Files
 pub mod OffsetCalls
 pub mod Entries
