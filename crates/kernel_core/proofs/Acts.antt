@@ -22,7 +22,7 @@ use Rattle.kernel_model.specs.View.{View, whole}
 use Rattle.kernel_model.specs.Waits.{waiting, waits_if}
 use Rattle.kernel_model.proofs.Outcomes.{outcome_reads}
 use Rattle.kernel_model.proofs.Tests.{not_true}
-use Rattle.kernel_core.specs.Done.{IsAnswered}
+use Rattle.kernel_model.specs.Done.{IsAnswered}
 
 -- a refused call answers the refusal alone
 pub act_refused : (constants : Constants) (S : State) (who : Who) (call : Call) (table : Table) (reply : Reply) → get S.tables who.pid ≡ Some table

@@ -29,7 +29,7 @@ use Rattle.kernel_model.proofs.Parking.{waiting_may}
 use Rattle.kernel_model.proofs.Threading.{with_valid}
 use Rattle.kernel_model.proofs.Valids.{release_valid, tick_valid}
 use Rattle.poll_set.proofs.PollReads.{poll_takes_memory}
-use Rattle.kernel_core.specs.Done.{IsAnswered}
+use Rattle.kernel_model.specs.Done.{IsAnswered}
 use Rattle.kernel_core.specs.Locks.{BeginsWith}
 use Rattle.kernel_core.proofs.Acts.{act_allowed, act_refused, done_is_step, lack_is_step}
 use Rattle.kernel_core.proofs.Done.{answered_as, replied}

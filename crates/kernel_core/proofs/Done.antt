@@ -16,7 +16,7 @@ use Rattle.kernel_model.specs.State.{State, Table, put_all}
 use Rattle.kernel_model.specs.Valid.{IsValid}
 use Rattle.kernel_model.proofs.Tests.{not_true}
 use Rattle.kernel_model.proofs.Valids.{release_valid, same_value}
-use Rattle.kernel_core.specs.Done.{IsAnswered, IsDone}
+use Rattle.kernel_model.specs.Done.{IsAnswered, IsDone}
 
 pub replied : (o : Outcome) (S : State) (reply : Reply) → IsValid S → o ≡ replies reply → IsAnswered o S S (answer.Reply reply)
 replied o S reply valid is =

@@ -50,7 +50,7 @@ use Rattle.kernel_model.proofs.Tests.{none_is_no, same_some}
 use Rattle.kernel_model.proofs.Valids.{IsSameBehind, release_valid, set_open_nearly_valid, some_again}
 use Rattle.kernel_parts.specs.Entries.{open_in}
 use Rattle.kernel_parts.specs.StreamCalls.{terms_after}
-use Rattle.kernel_core.specs.Done.{IsAnswered}
+use Rattle.kernel_model.specs.Done.{IsAnswered}
 use Rattle.kernel_core.specs.OffsetCalls.{offset_outcome}
 use Rattle.kernel_parts.specs.StreamCalls.{stream_outcome}
 use Rattle.kernel_core.proofs.Channels.{end_is}

@@ -35,7 +35,7 @@ use Rattle.kernel_model.proofs.Tests.{none_is_no, not_true, same_some}
 use Rattle.kernel_model.proofs.ThreadCalls.{made_holds}
 use Rattle.kernel_model.proofs.Valids.{release_valid}
 use Rattle.kernel_parts.specs.OwnCalls.{own_after, IsOwnStep}
-use Rattle.kernel_core.specs.Done.{IsDone}
+use Rattle.kernel_model.specs.Done.{IsDone}
 use Rattle.kernel_core.specs.Kernel.{IsKept}
 use Rattle.kernel_core.specs.Threads.{is_last_in}
 use Rattle.kernel_core.proofs.Done.{done_as, done_seen}

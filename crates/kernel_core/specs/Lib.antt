@@ -1,5 +1,4 @@
 pub mod Kernel
-pub mod Done
 pub mod Files
 pub mod OffsetCalls
 pub mod Entries

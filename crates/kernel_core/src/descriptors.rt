@@ -3,7 +3,7 @@ ghost use Rattle.std.specs.Prelude.{◌≡◌, Some, IsSome};
 ghost use Rattle.std.specs.FinMap as map;
 ghost use Rattle.abi_types.specs.Families.{call_of_change};
 ghost use Rattle.abi_types.specs.declared.reply.Answer.TheVariants as answer;
-ghost use Rattle.kernel_core.specs.Done.{IsDone};
+ghost use Rattle.kernel_model.specs.Done.{IsDone};
 ghost use Rattle.kernel_model.specs.Calls.{takes_memory};
 ghost use Rattle.kernel_model.specs.Families.DescriptorCalls.{stat_get, stat_of, flags_of};
 ghost use Rattle.kernel_model.specs.State.{Table};

@@ -1,7 +1,7 @@
 //! Which part of the kernel does a call.
 ghost use Rattle.std.specs.Prelude.{◌≡◌, ◌+◌, ◌<◌, ◌^◌, false, IsSome};
 ghost use Rattle.std.specs.FinMap as map;
-ghost use Rattle.kernel_core.specs.Done.{IsDone};
+ghost use Rattle.kernel_model.specs.Done.{IsDone};
 ghost use Rattle.kernel_model.specs.Calls.{meaning_of, takes_memory};
 ghost use Rattle.kernel_model.specs.Step.{outcome_by};
 ghost use Rattle.kernel_model.specs.View.{whole};

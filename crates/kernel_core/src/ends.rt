@@ -3,7 +3,7 @@ ghost use Rattle.std.specs.Prelude.{◌≡◌, ◌+◌, ◌<◌, ◌^◌, ℕ, S
 ghost use Rattle.std.specs.FinMap as map;
 ghost use Rattle.std.specs.Option.{option_map};
 ghost use Rattle.channel_calls.specs.Pairs.{model_of};
-ghost use Rattle.kernel_core.specs.Done.{IsDone};
+ghost use Rattle.kernel_model.specs.Done.{IsDone};
 ghost use Rattle.kernel_core.specs.Ends.{IsPair};
 ghost use Rattle.kernel_model.specs.Families.SocketCalls as model;
 ghost use Rattle.kernel_model.specs.Outcome.{replies};

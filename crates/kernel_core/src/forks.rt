@@ -1,7 +1,7 @@
 //! The call that makes a child of a process.
 ghost use Rattle.std.specs.Prelude.{◌≡◌, ℕ, Some, IsSome, IfOk, IfErr, OnOk, OnErr, true};
 ghost use Rattle.std.specs.FinMap as map;
-ghost use Rattle.kernel_core.specs.Done.{IsDone};
+ghost use Rattle.kernel_model.specs.Done.{IsDone};
 ghost use Rattle.kernel_core.specs.Forks.{IsChildOf};
 ghost use Rattle.kernel_model.specs.Families.DescriptorCalls.{lowest_free};
 ghost use Rattle.kernel_model.specs.Families.ForkCalls.{fork_at, fork_updates, forked_reply};

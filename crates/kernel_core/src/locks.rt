@@ -1,7 +1,7 @@
 //! Calls on locks and condition variables, and polls of them.
 ghost use Rattle.std.specs.Prelude.{◌≡◌, ◌<◌, ◌^◌, false, IfSome, IfNone, IsSome};
 ghost use Rattle.std.specs.FinMap as map;
-ghost use Rattle.kernel_core.specs.Done.{IsAnswered};
+ghost use Rattle.kernel_model.specs.Done.{IsAnswered};
 ghost use Rattle.kernel_core.specs.Locks.{BeginsWith};
 ghost use Rattle.kernel_model.specs.Calls.{meaning_of};
 ghost use Rattle.kernel_model.specs.Families.LockCalls.{signal_in, unlock_in, waited_outcome};

@@ -1,7 +1,7 @@
 //! The call that opens what a path leads to.
 ghost use Rattle.std.specs.Prelude.{◌≡◌, ◌+◌, ◌<◌, ◌^◌, ℕ, Some, IsSome, IfOk, IfErr, true};
 ghost use Rattle.std.specs.FinMap as map;
-ghost use Rattle.kernel_core.specs.Done.{IsDone};
+ghost use Rattle.kernel_model.specs.Done.{IsDone};
 ghost use Rattle.kernel_core.specs.Opening.{IsOpening, open_outcome};
 ghost use Rattle.kernel_model.specs.Families.ClockCalls.{real_time};
 ghost use Rattle.kernel_model.specs.Outcome.{replies};

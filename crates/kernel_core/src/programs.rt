@@ -4,7 +4,7 @@ ghost use Rattle.std.specs.FinMap as map;
 ghost use Rattle.clock_random.specs.Random.{random_bytes};
 ghost use Rattle.elf_image.specs.Checks.{fault_of};
 ghost use Rattle.fd_table.specs.Table.{IsTable};
-ghost use Rattle.kernel_core.specs.Done.{IsDone};
+ghost use Rattle.kernel_model.specs.Done.{IsDone};
 ghost use Rattle.kernel_core.specs.Programs.{Begins, begun_updates, exec_outcome, IsProgram};
 ghost use Rattle.kernel_model.specs.Families.ClockCalls.{can_draw};
 ghost use Rattle.kernel_model.specs.Families.ForkCalls.{exec_checked, listed};

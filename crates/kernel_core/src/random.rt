@@ -1,7 +1,7 @@
 //! The call for random bytes.
 ghost use Rattle.std.specs.Prelude.{IsSome, true};
 ghost use Rattle.std.specs.FinMap as map;
-ghost use Rattle.kernel_core.specs.Done.{IsDone};
+ghost use Rattle.kernel_model.specs.Done.{IsDone};
 ghost use Rattle.kernel_model.specs.Families.ClockCalls.{drawn_by};
 
 use crate::kernel::Kernel;

@@ -2,7 +2,7 @@
 ghost use Rattle.std.specs.Prelude.{IsSome};
 ghost use Rattle.std.specs.FinMap as map;
 ghost use Rattle.abi_types.specs.declared.reply.Answer.TheVariants as answer;
-ghost use Rattle.kernel_core.specs.Done.{IsAnswered};
+ghost use Rattle.kernel_model.specs.Done.{IsAnswered};
 ghost use Rattle.kernel_model.specs.Families.ProcessCalls.{raise_of, signal_of};
 ghost use Rattle.kernel_model.specs.Valid.{IsValid};
 

@@ -2,7 +2,7 @@
 ghost use Rattle.std.specs.Prelude.{◌≡◌, IsSome, true};
 ghost use Rattle.std.specs.FinMap as map;
 ghost use Rattle.abi_types.specs.declared.reply.Answer.TheVariants as answer;
-ghost use Rattle.kernel_core.specs.Done.{IsAnswered, IsDone};
+ghost use Rattle.kernel_model.specs.Done.{IsAnswered, IsDone};
 ghost use Rattle.kernel_core.specs.Threads.{is_last_in, IsReleasedBy};
 ghost use Rattle.kernel_model.specs.Families.ProcessCalls.{left_in, left_updates, made_in};
 ghost use Rattle.kernel_model.specs.Release.{release};

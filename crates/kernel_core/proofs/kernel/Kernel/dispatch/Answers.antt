@@ -24,7 +24,7 @@ use Rattle.kernel_model.proofs.Valids.{release_valid, same_value}
 use Rattle.kernel_parts.proofs.Tests.{on_err}
 use Rattle.poll_set.specs.Polls.{poll_outcome}
 use Rattle.poll_set.proofs.PollReads.{poll_by_stage}
-use Rattle.kernel_core.specs.Done.{IsDone}
+use Rattle.kernel_model.specs.Done.{IsDone}
 use Rattle.kernel_core.proofs.Acts.{act_allowed, act_refused, stat_get_sets_nothing}
 use Rattle.kernel_core.proofs.Channels.{socket_does}
 use Rattle.kernel_core.proofs.Done.{done_as, done_of, replied}

@@ -2,7 +2,7 @@ use Rattle.std.proofs.Common.{true, Ok, ap, subst, ◌∙◌}
 use Rattle.std.specs.FinMap.{get, insert}
 use Rattle.abi_types.specs.declared.who.Who.{Who}
 use Rattle.kernel_model.specs.Families.LockCalls.{unlock_in}
-use Rattle.kernel_core.specs.Done.{IsDone}
+use Rattle.kernel_model.specs.Done.{IsDone}
 use Rattle.kernel_core.specs.contracts.kernel.Kernel.{the_view}
 use Rattle.kernel_core.proofs.OwnCalls.{own_call, own_call_done, own_call_kept, unlocked_only, IsOwnCall}
 use Rattle.kernel_core.proofs.kernel.Kernel.lock_unlock.Goals as goal

@@ -18,7 +18,7 @@ use Rattle.kernel_model.specs.Outcome.{Outcome, replies}
 use Rattle.kernel_model.specs.State.{State, Table, tree_of}
 use Rattle.kernel_model.specs.Valid.{IsValid}
 use Rattle.kernel_parts.specs.StreamCalls.{stream_outcome}
-use Rattle.kernel_core.specs.Done.{IsAnswered, IsDone}
+use Rattle.kernel_model.specs.Done.{IsAnswered, IsDone}
 use Rattle.kernel_core.specs.OffsetCalls.{offset_outcome}
 use Rattle.kernel_core.specs.contracts.kernel.Kernel.{the_view}
 use Rattle.kernel_core.proofs.Done.{done_as, done_at, done_of, done_seen, lacked, replied_seen}

@@ -9,7 +9,7 @@ use Rattle.kernel_model.specs.State.{State, put_all, thread_of}
 use Rattle.kernel_model.specs.Step.{outcome_by, tick}
 use Rattle.kernel_model.specs.Valid.{IsValid}
 use Rattle.kernel_model.specs.View.{whole}
-use Rattle.kernel_core.specs.Done.{IsAnswered}
+use Rattle.kernel_model.specs.Done.{IsAnswered}
 use Rattle.kernel_core.proofs.Acts.{done_is_step, lack_is_step}
 use Rattle.kernel_core.proofs.Parks.{park_lacks_is_step, parked_is_step, parked_left, parks_may}
 use Rattle.kernel_core.proofs.Waiters.{thread_is_live}

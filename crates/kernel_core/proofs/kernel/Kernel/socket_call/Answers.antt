@@ -15,7 +15,7 @@ use Rattle.kernel_model.proofs.Valids.{some_again}
 use Rattle.kernel_parts.specs.Entries.{open_in, open_with}
 use Rattle.kernel_parts.specs.Released.{state_by}
 use Rattle.kernel_parts.specs.Waiting.{fd_of_socket, socket_at}
-use Rattle.kernel_core.specs.Done.{IsDone}
+use Rattle.kernel_model.specs.Done.{IsDone}
 use Rattle.kernel_core.specs.Kernel.{IsKept}
 use Rattle.kernel_core.specs.Sockets.{socket_on}
 use Rattle.kernel_core.specs.contracts.kernel.Kernel.{the_view}

@@ -5,7 +5,7 @@ use Rattle.std.specs.FinMap.{get, insert}
 use Rattle.abi_types.specs.declared.who.Who.{Who}
 use Rattle.kernel_model.specs.Families.ProcessCalls.{made_in}
 use Rattle.kernel_parts.specs.OwnCalls.{IsOwnStep}
-use Rattle.kernel_core.specs.Done.{IsDone}
+use Rattle.kernel_model.specs.Done.{IsDone}
 use Rattle.kernel_core.specs.contracts.kernel.Kernel.{the_view}
 use Rattle.kernel_core.proofs.OwnCalls.{created_only, own_call, own_call_done, own_call_kept, IsOwnCall}
 use Rattle.kernel_core.proofs.kernel.Kernel.thread_create.Goals as goal

@@ -9,7 +9,7 @@ use Rattle.kernel_model.specs.Families.ProcessCalls.{left_in, left_updates, left
 use Rattle.kernel_model.specs.Outcome.{replies}
 use Rattle.kernel_model.specs.Release.{release}
 use Rattle.kernel_model.specs.State.{State, ProcessState, put_all}
-use Rattle.kernel_core.specs.Done.{IsAnswered}
+use Rattle.kernel_model.specs.Done.{IsAnswered}
 use Rattle.kernel_core.proofs.Done.{answered_as, replied}
 use Rattle.kernel_core.proofs.Leaving.{process_again, with_process}
 use Rattle.kernel_core.proofs.OwnCalls.{left_again, made, refused_same}
