@@ -1,5 +1,5 @@
 /*
- * Makes the calls of a script, and compares each answer with what the script wants. docs/GATE.md says how scripts are written.
+ * Makes the calls of a script, and compares each answer with what the script wants. docs/CASES.md says how scripts are written.
  *
  * The argument data has the script's text ("calls"), the number of its first line in its file ("line") and the descriptor to
  * which differences are written ("output"). Row k is the run's k-th call, so no call is made but the rows' own, and differences

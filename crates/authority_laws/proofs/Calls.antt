@@ -177,7 +177,7 @@ file_open_reported lookup path oflags stat constants S v who table there seen =
 decided_reported : (call : Call) (errno : Errno) (S : State) (p : ℕ) → GrantsNothing call → LeavesRow S p call (replies (refused errno))
 decided_reported call errno S p nothing = kept S p call (replies (refused errno)) nothing refl
 
--- a call that isn't built yet, whatever its line says of a success
+-- the call that isn't offered, whatever its line says of a success
 unbuilt_reported : (call : Call)
     → ((constants : Constants) (v : View) (who : Who) (table : Table) → (meaning_of call).effect constants v who table ≡ replies (refused Nosys)) → IsReported call
 unbuilt_reported call is constants S v who table there seen =

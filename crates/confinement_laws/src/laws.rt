@@ -42,8 +42,8 @@ pub fn legal_leaves_unwritten()
     ensures { LegalLeavesUnwritten }
 {}
 
-/// Two launches that differ in nothing to which a grant leads have the same histories, with the same processes, outputs and ends; only of what no grant
-/// leads to their file trees differ.
+/// Two launches that differ in nothing to which a grant leads, and whose file trees have as many nodes, have the same histories, with the
+/// same processes, outputs and ends; only of what no grant leads to their file trees differ.
 pub fn launches_run_alike()
     ensures { LaunchesRunAlike }
 {}

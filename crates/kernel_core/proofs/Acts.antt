@@ -22,6 +22,7 @@ use Rattle.kernel_model.specs.View.{View, whole}
 use Rattle.kernel_model.specs.Waits.{waiting, waits_if}
 use Rattle.kernel_model.proofs.Outcomes.{outcome_reads}
 use Rattle.kernel_model.proofs.Tests.{not_true}
+use Rattle.kernel_model.specs.Done.{IsAnswered}
 
 -- a refused call answers the refusal alone
 pub act_refused : (constants : Constants) (S : State) (who : Who) (call : Call) (table : Table) (reply : Reply) → get S.tables who.pid ≡ Some table
@@ -44,13 +45,6 @@ pub stat_get_sets_nothing : (v : View) (o : Option Descriptor) → (stat_get v o
 stat_get_sets_nothing v None = refl
 stat_get_sets_nothing v (Some d) = stat_sets_nothing d (v.opened d.id)
 
--- an answer and a state that are those of an outcome are those of the call that has this outcome
-pub by_outcome : (constants : Constants) (S T : State) (who : Who) (call : Call) (given : Answer) (o : Outcome) → outcome_by constants (whole S) who call ≡ o
-    → (given ≡ o.answer) × (T ≡ release (put_all o.updates S))
-    → (given ≡ (outcome_by constants (whole S) who call).answer) × (T ≡ release (put_all (outcome_by constants (whole S) who call).updates S))
-by_outcome constants S T who call given o e done =
-    (done.0 ∙ sym (ap (λ (x : Outcome). x.answer) e), done.1 ∙ sym (ap (λ (x : Outcome). release (put_all x.updates S)) e))
-
 -- where the answer is a reply its thread doesn't wait
 replies_only : (a : Answer) (who : Who) (thread : Thread) (S : State) → is_parked a ≡ false → waits_if a who thread S ≡ S
 replies_only (answer.Parked writes) who thread S replied = absurd (not_true (sym replied))
@@ -58,14 +52,13 @@ replies_only (answer.Reply reply) who thread S replied = refl
 
 -- a call that was done is a step of the definition
 pub done_is_step : (constants : Constants) (S U : State) (who : Who) (call : Call) (reply : Reply)
-    → answer.Reply reply ≡ (outcome_by constants (whole (tick S)) who call).answer
-    → U ≡ release (put_all (outcome_by constants (whole (tick S)) who call).updates (tick S)) → IsStep constants S who call (answer.Reply reply) U
-done_is_step constants S U who call reply answered left =
+    → IsAnswered (outcome_by constants (whole (tick S)) who call) (tick S) U (answer.Reply reply) → IsStep constants S who call (answer.Reply reply) U
+done_is_step constants S U who call reply done =
     let same : outcome constants S who call ≡ outcome_by constants (whole (tick S)) who call = outcome_reads constants S who call in
-    let is : answer.Reply reply ≡ (outcome constants S who call).answer = answered ∙ ap (λ (o : Outcome). o.answer) (sym same) in
+    let is : answer.Reply reply ≡ (outcome constants S who call).answer = done.0 ∙ ap (λ (o : Outcome). o.answer) (sym same) in
     inl (
       is,
-      left ∙ ap (λ (o : Outcome). release (put_all o.updates (tick S))) (sym same)
+      done.1 ∙ ap (λ (o : Outcome). release (put_all o.updates (tick S))) (sym same)
           ∙ ap release (sym (replies_only (outcome constants S who call).answer who (waiting constants call who (S.clock + 1000))
           (put_all (outcome constants S who call).updates (tick S)) (ap is_parked (sym is)))),
     )

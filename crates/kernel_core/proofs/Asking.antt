@@ -29,8 +29,10 @@ use Rattle.kernel_model.proofs.Parking.{waiting_may}
 use Rattle.kernel_model.proofs.Threading.{with_valid}
 use Rattle.kernel_model.proofs.Valids.{release_valid, tick_valid}
 use Rattle.poll_set.proofs.PollReads.{poll_takes_memory}
-use Rattle.kernel_core.specs.Locks.{BeginsWith, IsDoneBy}
+use Rattle.kernel_model.specs.Done.{IsAnswered}
+use Rattle.kernel_core.specs.Locks.{BeginsWith}
 use Rattle.kernel_core.proofs.Acts.{act_allowed, act_refused, done_is_step, lack_is_step}
+use Rattle.kernel_core.proofs.Done.{answered_as, replied}
 use Rattle.kernel_core.proofs.Families.{lock_poll_does}
 use Rattle.kernel_core.proofs.OwnCalls.{own_valid, waited_only, OnlyOwn}
 use Rattle.kernel_core.proofs.Parks.{owner}
@@ -43,8 +45,7 @@ module _ (constants : Constants) (S : State) (who : Who) (call : Call) (table : 
   pub lock_refused : (reply : Reply) → refusal table call ≡ Some reply → IsValid S → IsStep constants S who call (answer.Reply reply) (tick S)
   lock_refused reply refuses valid =
       let is = act_refused constants (tick S) who call table reply here refuses in
-      done_is_step constants S (tick S) who call reply (sym (ap (λ (o : Outcome). o.answer) is))
-      (sym (ap (λ (o : Outcome). release (put_all o.updates (tick S))) is ∙ release_valid (tick S) (tick_valid S valid)))
+      done_is_step constants S (tick S) who call reply (replied (outcome_by constants (whole (tick S)) who call) (tick S) reply (tick_valid S valid) is)
 
   module _ (first : Subscription) (begins : BeginsWith first call) (allowed : refusal table call ≡ None) where
     abbrev does : Option ProcessState → Outcome
@@ -69,10 +70,10 @@ module _ (constants : Constants) (S : State) (who : Who) (call : Call) (table : 
         lack_is_step constants S T who call given (ap takes_memory begins.1 ∙ poll_takes_memory (first ∷ begins.0))
         (subst (λ (o : Outcome). IsSuccess o.answer) (sym outcome_is) succeeds) lacks left
 
-    pub lock_replies : (reply : Reply) (T : State) → IsDoneBy who.pid does (tick S) (answer.Reply reply) T → IsStep constants S who call (answer.Reply reply) T
+    pub lock_replies : (reply : Reply) (T : State) → IsAnswered comes (tick S) T (answer.Reply reply) → IsStep constants S who call (answer.Reply reply) T
     lock_replies reply T done =
-        done_is_step constants S T who call reply (done.0 ∙ ap (λ (o : Outcome). o.answer) (sym outcome_is))
-        (done.1 ∙ ap (λ (o : Outcome). release (put_all o.updates (tick S))) (sym outcome_is))
+        done_is_step constants S T who call reply
+        (answered_as comes (outcome_by constants (whole (tick S)) who call) (tick S) T (answer.Reply reply) (sym outcome_is) done)
 
     module _ (valid : IsValid S) (there : IsSome (thread_of S who.pid who.tid)) where
       -- what is left of the process is valid
@@ -84,7 +85,7 @@ module _ (constants : Constants) (S : State) (who : Who) (call : Call) (table : 
           (tick_valid S valid)
 
       -- its thread waits in a copy of the call
-      pub lock_waits : (writes : WordWrites) (kept : Call) (U T : State) → kept ≡ call → IsDoneBy who.pid does (tick S) (answer.Parked writes) U
+      pub lock_waits : (writes : WordWrites) (kept : Call) (U T : State) → kept ≡ call → IsAnswered comes (tick S) U (answer.Parked writes)
           → U.clock ≡ S.clock + 1000 → T ≡ with_thread U who.pid who.tid (waiting constants kept who U.clock) → IsStep constants S who call (answer.Parked writes) T
       lock_waits writes kept U T same done moment waits =
           let thread : Thread = waiting constants call who (S.clock + 1000) in

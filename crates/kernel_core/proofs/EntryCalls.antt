@@ -1,6 +1,5 @@
 -- Calls on names: what their meanings come to by the tables and opens, and the state after them.
---     opened_is, opened_kind_is      the open of a descriptor
---     open_there      that of a descriptor that is there
+--     open_there      the open of a descriptor that is there
 --     entries_does      a call means what its outcome is
 --     entries_take_memory, first_is_named      memory may run out in it;  its first descriptor is there
 --     next_is_new      nothing in the tree has the number of the node that it makes
@@ -44,13 +43,10 @@ use Rattle.kernel_model.proofs.Tests.{none_is_no, not_true, same_some}
 use Rattle.entry_calls.specs.Done.{IsNew}
 use Rattle.kernel_core.specs.Entries.{entry_outcome, entries_come}
 use Rattle.kernel_parts.specs.Entries.{IsLeftBy, open_at, open_in}
+use Rattle.kernel_core.proofs.FileCalls.{opened_is}
 use Rattle.kernel_core.proofs.Leaving.{left_of, released_is}
 
 -- ---- the opens of descriptors
-
-pub opened_is : (S : State) (o : Option Descriptor) → open_of (whole S) o ≡ open_in S.opens o
-opened_is S None = refl
-opened_is S (Some d) = refl
 
 behind_in : (S : State) (o : Option Descriptor) → IsNearlyValid S → IsBehind S (open_in S.opens o)
 behind_in S o v = λ k is. open_has_behind S o v k (opened_is S o ∙ is)

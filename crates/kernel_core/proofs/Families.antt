@@ -5,8 +5,7 @@
 --     change_does, poll_does, zeros_does, answered_does, unbuilt_does      what such a call does
 --     change_replaces, change_takes_memory      a number that is replaced is there;  memory may run out for a new number
 --     all_named      where a call isn't refused each descriptor that it names is there
---     on_err_both, on_err_all      what follows where there is an error
-use Rattle.std.proofs.Common.{◌≡◌, ℕ, Bool, true, false, cond, List, [], Option, None, Some, Result, Ok, Err, OnErr, refl, sym, ap, subst, ◌∷◌, ◌∙◌}
+use Rattle.std.proofs.Common.{◌≡◌, ℕ, Bool, true, false, cond, List, [], Option, None, Some, refl, sym, ap, subst, ◌∷◌, ◌∙◌}
 use Rattle.abi_base.specs.declared.errno.Errno.{Errno}
 use Rattle.abi_base.specs.declared.errno.Errno.TheVariants.{Badf, Nosys, Success}
 use Rattle.abi_structures.specs.declared.events.Subscription.{Subscription}
@@ -271,13 +270,3 @@ present_by false x o none = refl
 -- where a call isn't refused each descriptor that it names is there
 pub all_named : (table : Table) (c : Call) → refusal table c ≡ None → HasAll table (named c)
 all_named table c none = all_present table (named c) (present_by (some_absent table (named c)) (refused Badf) _ none)
-
--- ---- errors
-
-pub on_err_both : {X E A B C : Type 0} (r : Result X E) → OnErr r A → OnErr r B → (A → B → C) → OnErr r C
-on_err_both (Ok x) a b h = tt
-on_err_both (Err e) a b h = h a b
-
-pub on_err_all : {X E A B C D : Type 0} (r : Result X E) → OnErr r A → OnErr r B → OnErr r C → (A → B → C → D) → OnErr r D
-on_err_all (Ok x) a b c h = tt
-on_err_all (Err e) a b c h = h a b c

@@ -1,12 +1,14 @@
 -- Calls that work on the open of a descriptor change the file tree alone.
 --     put_all_tree      updates of the tree alone give a state with the tree that they make
---     file_does      a call means what its outcome is
+--     opened_is      the open of a descriptor
+--     file_does, file_comes      a call means what its outcome is;  on the open that a descriptor has
+--     file_takes_memory      memory may run out in it
 --     tree_valid      a valid state with another tree, whose nodes have as many names, is valid where it is nearly so
 --     there_behind      what stands behind an open of a valid state is there
---     absent_answers      without an open such a call answers BADF, and leaves the state
+--     absent_comes      without an open it comes to BADF
 --     done_valid      what a call leaves of a valid state is valid
---     done_answers      and it is the state of its outcome, of which nothing is released
-use Rattle.std.proofs.Common.{◌≡◌, ◌==◌, ◌||◌, ℕ, List, [], ◌∷◌, Option, None, Some, refl, sym, ap, subst, ◌∙◌}
+--     done_released      and it is the state of its outcome, of which nothing is released
+use Rattle.std.proofs.Common.{◌≡◌, ◌==◌, ◌||◌, ℕ, true, List, [], ◌∷◌, Option, None, Some, refl, sym, ap, subst, ◌∙◌}
 use Rattle.std.specs.Prelude.{is_some, nat_lt}
 use Rattle.std.specs.FinMap.{get}
 use Rattle.std.specs.List.{AllByRecursion}
@@ -15,22 +17,20 @@ use Rattle.abi_base.specs.declared.errno.Errno.TheVariants.{Badf}
 use Rattle.abi_types.specs.declared.call.Call.{Call}
 use Rattle.abi_types.specs.declared.call.Call.TheVariants as call
 use Rattle.abi_types.specs.declared.constants.Constants.{Constants}
+use Rattle.abi_types.specs.declared.descriptor.Descriptor.{Descriptor}
 use Rattle.abi_types.specs.declared.node.Node.{Node}
 use Rattle.abi_types.specs.declared.open_kind.OpenKind.{OpenKind}
 use Rattle.abi_types.specs.declared.open_kind.OpenKind.TheVariants.{File, Directory, End, Terminal, Process}
-use Rattle.abi_types.specs.declared.reply.Answer.{Answer}
-use Rattle.abi_types.specs.declared.reply.Answer.TheVariants as answer
-use Rattle.abi_types.specs.declared.reply.Reply.{Reply}
 use Rattle.abi_types.specs.declared.who.Who.{Who}
 use Rattle.tree_model.specs.Opens.{opens_of_node}
 use Rattle.tree_model.specs.Tree.{links_in, links_of}
 use Rattle.tree_model.specs.declared.limits.TheConstants.{ROOT}
-use Rattle.kernel_model.specs.Calls.{meaning_of}
+use Rattle.kernel_model.specs.Calls.{meaning_of, takes_memory}
 use Rattle.kernel_model.specs.Families.ClockCalls.{real_time}
 use Rattle.kernel_model.specs.Families.FileCalls.{file_meaning, file_fd}
 use Rattle.kernel_model.specs.Families.FileMeaning.{open_of}
 use Rattle.kernel_model.specs.Meaning.{Meaning}
-use Rattle.kernel_model.specs.Outcome.{Outcome, replies}
+use Rattle.kernel_model.specs.Outcome.{replies}
 use Rattle.kernel_model.specs.Release.{release}
 use Rattle.kernel_model.specs.Reply.{refused}
 use Rattle.kernel_model.specs.State.{State, Table, Tree, tree_of, Update, put_all, put_one, set_node, set_names}
@@ -42,6 +42,7 @@ use Rattle.kernel_model.proofs.Tests.{none_is_no}
 use Rattle.kernel_model.proofs.Valids.{release_valid}
 use Rattle.file_calls.specs.Done.{HasSameNodes, tree_after}
 use Rattle.file_calls.specs.Opens.{IsThere}
+use Rattle.kernel_parts.specs.Entries.{open_in}
 use Rattle.kernel_core.specs.Files.{file_outcome}
 
 -- a state with another file tree
@@ -56,11 +57,24 @@ put_all_tree (u ∷ us) S h = absurd h.0
 
 -- ---- what the calls mean
 
+pub opened_is : (S : State) (o : Option Descriptor) → open_of (whole S) o ≡ open_in S.opens o
+opened_is S None = refl
+opened_is S (Some d) = refl
+
 pub file_does : (constants : Constants) (S : State) (who : Who) (table : Table) (called : Call) (fd : ℕ) → file_fd called ≡ Some fd
     → (meaning_of called).effect constants (whole S) who table ≡ file_outcome constants S table fd called
 file_does constants S who table called fd is =
     let on = on_open_of called fd is in
     ap (λ (m : Meaning). m.effect constants (whole S) who table) on.means ∙ ap (λ n. file_outcome constants S table n called) on.of
+
+-- on the open that a descriptor has
+pub file_comes : (constants : Constants) (S : State) (table : Table) (fd : ℕ) (called : Call) (kind : OpenKind) → open_in S.opens (get table fd) ≡ Some kind
+    → (file_meaning called).effect (real_time constants S.clock) (tree_of S) (Some kind) ≡ file_outcome constants S table fd called
+file_comes constants S table fd called kind opened =
+    ap ((file_meaning called).effect (real_time constants S.clock) (tree_of S)) (sym (opened_is S (get table fd) ∙ opened))
+
+pub file_takes_memory : (called : Call) (fd : ℕ) → file_fd called ≡ Some fd → (file_meaning called).takes_memory ≡ true → takes_memory called ≡ true
+file_takes_memory called fd is takes = ap (λ (m : Meaning). m.takes_memory) (on_open_of called fd is).means ∙ takes
 
 -- ---- validity
 
@@ -114,22 +128,11 @@ absent_is_badf (call.FdPwrite n bytes offset) fd now t is = refl
 absent_is_badf (call.MemMap place length prot flags n offset) fd now t is = refl
 absent_is_badf other fd now t is = absurd (none_is_no fd is)
 
--- what is said of a call that answers so and leaves this state
-abbrev pub IsFileStep : Constants → State → Table → ℕ → Call → Answer → State → Type 0
-IsFileStep constants S table fd called given T =
-    (given ≡ (file_outcome constants S table fd called).answer) × (T ≡ release (put_all (file_outcome constants S table fd called).updates S))
-
-file_step_of : (constants : Constants) (S T : State) (table : Table) (fd : ℕ) (called : Call) (given : Answer) (o : Outcome)
-    → file_outcome constants S table fd called ≡ o → given ≡ o.answer → T ≡ release (put_all o.updates S) → IsFileStep constants S table fd called given T
-file_step_of constants S T table fd called given o is answered left =
-    (answered ∙ sym (ap (λ (x : Outcome). x.answer) is), left ∙ sym (ap (λ (x : Outcome). release (put_all x.updates S)) is))
-
-pub absent_answers : (constants : Constants) (S : State) (table : Table) (fd : ℕ) (called : Call) (reply : Reply) → file_fd called ≡ Some fd → IsValid S
-    → open_of (whole S) (get table fd) ≡ None → reply ≡ refused Badf → IsFileStep constants S table fd called (answer.Reply reply) S
-absent_answers constants S table fd called reply is valid none badf =
-    file_step_of constants S S table fd called (answer.Reply reply) (replies (refused Badf))
-    (ap ((file_meaning called).effect (real_time constants S.clock) (tree_of S)) none ∙ absent_is_badf called fd (real_time constants S.clock) (tree_of S) is)
-    (ap answer.Reply badf) (sym (release_valid S valid))
+pub absent_comes : (constants : Constants) (S : State) (table : Table) (fd : ℕ) (called : Call) → file_fd called ≡ Some fd
+    → open_in S.opens (get table fd) ≡ None → file_outcome constants S table fd called ≡ replies (refused Badf)
+absent_comes constants S table fd called is none =
+    ap ((file_meaning called).effect (real_time constants S.clock) (tree_of S)) (opened_is S (get table fd) ∙ none)
+    ∙ absent_is_badf called fd (real_time constants S.clock) (tree_of S) is
 
 -- ---- a call that is done
 
@@ -149,14 +152,5 @@ module _ (called : Call) (fd now : ℕ) (is : file_fd called ≡ Some fd) (S : S
       valid
 
   -- and nothing is released after it
-  done_released : with_tree S t ≡ release (put_all ((file_meaning called).effect now (tree_of S) (Some kind)).updates S)
+  pub done_released : with_tree S t ≡ release (put_all ((file_meaning called).effect now (tree_of S) (Some kind)).updates S)
   done_released = sym (release_valid (with_tree S t) done_valid) ∙ ap release (sym made)
-
-  pub done_answers : (constants : Constants) (table : Table) (reply : Reply) → now ≡ real_time constants S.clock
-      → open_of (whole S) (get table fd) ≡ Some kind → answer.Reply reply ≡ ((file_meaning called).effect now (tree_of S) (Some kind)).answer
-      → IsFileStep constants S table fd called (answer.Reply reply) (with_tree S t)
-  done_answers constants table reply time opened answered =
-      file_step_of constants S (with_tree S t) table fd called (answer.Reply reply) ((file_meaning called).effect now (tree_of S) (Some kind))
-      (ap ((file_meaning called).effect (real_time constants S.clock) (tree_of S)) opened
-      ∙ ap (λ moment. (file_meaning called).effect moment (tree_of S) (Some kind)) (sym time))
-      answered done_released

@@ -1,6 +1,8 @@
 pub mod Kept
+pub mod Done
 pub mod Changes
 pub mod Channels
+pub mod Released
 pub mod Lives
 pub mod Streams
 pub mod OffsetCalls

@@ -1,10 +1,10 @@
 -- Calls that move the open of a descriptor: what their meanings come to by the table, and the state after them.
 --     offset_does      a call means what its outcome is;  offset_takes_memory      memory may run out in it
---     lacking_answers      without a descriptor or an open it answers BADF, and leaves the state
---     stream_is, stream_outcome_is, stream_answers      on a standard stream;  the state after it is that of its outcome
+--     absent_comes      without a descriptor or an open it comes to BADF
+--     stream_is, stream_outcome_is, stream_left      on a standard stream;  the state after it is that of its outcome
 --     end_outcome_is      on an end of channels
 --     offset_is, offset_outcome_is, offset_keeps      on any other open: it moves the open and changes the file tree;  it keeps what stands behind the open
---     offset_valid, offset_answers      the state after it is valid, and that of its outcome, of which nothing is released
+--     offset_valid, offset_done      the state after it is valid, and that of its outcome, of which nothing is released
 use Rattle.std.proofs.Common.{◌≡◌, ◌≢◌, ℕ, ◌+◌, ◌==◌, ◌&&◌, Bool, true, false, cond, List, [], ◌∷◌, ◌++◌, Option, None, Some, IsSome, refl, sym, ap, subst, ◌∙◌}
 use Rattle.std.specs.Ordering.{nat_cmp}
 use Rattle.std.specs.FinMap.{FinMap, get, insert}
@@ -18,7 +18,6 @@ use Rattle.abi_types.specs.declared.descriptor.Descriptor.{Descriptor}
 use Rattle.abi_types.specs.declared.node.Node.{Node}
 use Rattle.abi_types.specs.declared.open_kind.OpenKind.{OpenKind}
 use Rattle.abi_types.specs.declared.open_kind.OpenKind.TheVariants.{File, Directory, End, Terminal, Process}
-use Rattle.abi_types.specs.declared.reply.Answer.{Answer}
 use Rattle.abi_types.specs.declared.reply.Answer.TheVariants as answer
 use Rattle.abi_types.specs.declared.reply.Reply.{Reply}
 use Rattle.abi_types.specs.declared.stream.Stream.{Stream}
@@ -51,6 +50,7 @@ use Rattle.kernel_model.proofs.Tests.{none_is_no, same_some}
 use Rattle.kernel_model.proofs.Valids.{IsSameBehind, release_valid, set_open_nearly_valid, some_again}
 use Rattle.kernel_parts.specs.Entries.{open_in}
 use Rattle.kernel_parts.specs.StreamCalls.{terms_after}
+use Rattle.kernel_model.specs.Done.{IsAnswered}
 use Rattle.kernel_core.specs.OffsetCalls.{offset_outcome}
 use Rattle.kernel_parts.specs.StreamCalls.{stream_outcome}
 use Rattle.kernel_core.proofs.Channels.{end_is}
@@ -84,16 +84,6 @@ offset_well (call.FdSeek n offset whence) fd is = seek_opens_well offset whence
 offset_well (call.FdWrite n bytes) fd is = write_opens_well bytes
 offset_well other fd is = absurd (none_is_no fd is)
 
--- what is said of a call that answers so and leaves this state
-abbrev pub IsOffsetStep : Constants → State → Table → ℕ → Call → Answer → State → Type 0
-IsOffsetStep constants S table fd called given T =
-    (given ≡ (offset_outcome constants S table fd called).answer) × (T ≡ release (put_all (offset_outcome constants S table fd called).updates S))
-
-step_of : (constants : Constants) (S T : State) (table : Table) (fd : ℕ) (called : Call) (given : Answer) (o : Outcome)
-    → offset_outcome constants S table fd called ≡ o → given ≡ o.answer → T ≡ release (put_all o.updates S) → IsOffsetStep constants S table fd called given T
-step_of constants S T table fd called given o is answered left =
-    (answered ∙ sym (ap (λ (x : Outcome). x.answer) is), left ∙ sym (ap (λ (x : Outcome). release (put_all x.updates S)) is))
-
 -- the outcome on the open of a descriptor that is there
 at_open : (constants : Constants) (S : State) (table : Table) (fd : ℕ) (called : Call) (d : Descriptor) (kind : Option OpenKind) → get table fd ≡ Some d
     → get S.opens d.id ≡ kind → offset_outcome constants S table fd called ≡ (offset_meaning called).effect (real_time constants S.clock) (whole S) d.id kind
@@ -110,24 +100,16 @@ unopened_is_badf (call.FdSeek n offset whence) fd now S o is = refl
 unopened_is_badf (call.FdWrite n bytes) fd now S o is = refl
 unopened_is_badf other fd now S o is = absurd (none_is_no fd is)
 
-unnamed_answers : (constants : Constants) (S : State) (table : Table) (fd : ℕ) (called : Call) (reply : Reply) → IsValid S
-    → get table fd ≡ None → reply ≡ refused Badf → IsOffsetStep constants S table fd called (answer.Reply reply) S
-unnamed_answers constants S table fd called reply valid none badf =
-    step_of constants S S table fd called (answer.Reply reply) (replies (refused Badf))
-    (ap (at_descriptor ((offset_meaning called).effect (real_time constants S.clock) (whole S)) (whole S)) none)
-    (ap answer.Reply badf) (sym (release_valid S valid))
+-- the outcome by a descriptor whose open isn't there
+lacking_comes : (constants : Constants) (S : State) (called : Call) (fd : ℕ) → offset_fd called ≡ Some fd → (o : Option Descriptor) → open_in S.opens o ≡ None
+    → at_descriptor ((offset_meaning called).effect (real_time constants S.clock) (whole S)) (whole S) o ≡ replies (refused Badf)
+lacking_comes constants S called fd is None none = refl
+lacking_comes constants S called fd is (Some d) none =
+    ap ((offset_meaning called).effect (real_time constants S.clock) (whole S) d.id) none ∙ unopened_is_badf called fd (real_time constants S.clock) S d.id is
 
-unopened_answers : (constants : Constants) (S : State) (table : Table) (fd : ℕ) (called : Call) (reply : Reply) (d : Descriptor) → offset_fd called ≡ Some fd
-    → IsValid S → get table fd ≡ Some d → get S.opens d.id ≡ None → reply ≡ refused Badf → IsOffsetStep constants S table fd called (answer.Reply reply) S
-unopened_answers constants S table fd called reply d is valid there none badf =
-    step_of constants S S table fd called (answer.Reply reply) (replies (refused Badf))
-    (at_open constants S table fd called d None there none ∙ unopened_is_badf called fd (real_time constants S.clock) S d.id is)
-    (ap answer.Reply badf) (sym (release_valid S valid))
-
-pub lacking_answers : (constants : Constants) (S : State) (table : Table) (fd : ℕ) (called : Call) (reply : Reply) → offset_fd called ≡ Some fd → IsValid S
-    → (o : Option Descriptor) → get table fd ≡ o → open_in S.opens o ≡ None → reply ≡ refused Badf → IsOffsetStep constants S table fd called (answer.Reply reply) S
-lacking_answers constants S table fd called reply is valid None named none badf = unnamed_answers constants S table fd called reply valid named badf
-lacking_answers constants S table fd called reply is valid (Some d) named none badf = unopened_answers constants S table fd called reply d is valid named none badf
+pub absent_comes : (constants : Constants) (S : State) (table : Table) (fd : ℕ) (called : Call) → offset_fd called ≡ Some fd
+    → open_in S.opens (get table fd) ≡ None → offset_outcome constants S table fd called ≡ replies (refused Badf)
+absent_comes constants S table fd called is none = lacking_comes constants S called fd is (get table fd) none
 
 -- ---- standard streams
 
@@ -156,16 +138,13 @@ stream_puts (call.FdWrite n bytes) S which None = refl
 stream_puts (call.FdWrite n bytes) S which (Some stream) = refl
 stream_puts other S which stream = refl
 
-module _ (constants : Constants) (S : State) (table : Table) (fd : ℕ) (called : Call) (is : offset_fd called ≡ Some fd) (d : Descriptor) (which flags : ℕ)
-    (terms : FinMap nat_cmp Stream) (valid : IsValid S) (named : get table fd ≡ Some d) (there : get S.opens d.id ≡ Some (Terminal which flags))
-    (stays : (k : ℕ) → IsSome (get S.terms k) → IsSome (get terms k)) where
-  pub stream_answers : (given : Answer) → given ≡ (stream_outcome called which (get S.terms which)).answer
-      → terms ≡ terms_after (stream_outcome called which (get S.terms which)).updates S.terms → IsOffsetStep constants S table fd called given (with_terms S terms)
-  stream_answers given answered left =
-      step_of constants S (with_terms S terms) table fd called given (stream_outcome called which (get S.terms which))
-      (stream_outcome_is constants S table fd called d which flags is named there) answered
-      (sym (release_valid (with_terms S terms) (written_valid S terms stays valid))
-      ∙ ap release (ap (with_terms S) left ∙ sym (stream_puts called S which (get S.terms which))))
+-- the state with other streams is that of the outcome, of which nothing is released
+pub stream_left : (called : Call) (S : State) (which : ℕ) (terms : FinMap nat_cmp Stream) → IsValid S → ((k : ℕ) → IsSome (get S.terms k) → IsSome (get terms k))
+    → terms ≡ terms_after (stream_outcome called which (get S.terms which)).updates S.terms
+    → with_terms S terms ≡ release (put_all (stream_outcome called which (get S.terms which)).updates S)
+stream_left called S which terms valid stays left =
+    sym (release_valid (with_terms S terms) (written_valid S terms stays valid))
+    ∙ ap release (ap (with_terms S) left ∙ sym (stream_puts called S which (get S.terms which)))
 
 -- ---- ends of channels
 
@@ -309,15 +288,12 @@ module _ (called : Call) (fd now : ℕ) (is : offset_fd called ≡ Some fd) (S :
       set_valid
 
   -- and nothing is released after it
-  pub offset_answers : (constants : Constants) (table : Table) (d : Descriptor) → now ≡ real_time constants S.clock → get table fd ≡ Some d → d.id ≡ o
-      → IsOffsetStep constants S table fd called (answer.Reply reply) (with_open S t o new)
-  offset_answers constants table d time named at =
-      step_of constants S (with_open S t o new) table fd called (answer.Reply reply) ((offset_meaning called).effect now (whole S) o (Some kind))
-      (at_open constants S table fd called d (Some kind) named (ap (get S.opens) at ∙ there)
-      ∙ ap (λ k. (offset_meaning called).effect (real_time constants S.clock) (whole S) k (Some kind)) at
-      ∙ ap (λ moment. (offset_meaning called).effect moment (whole S) o (Some kind)) (sym time))
-      (done.0.0 ∙ sym (ap (λ (x : Outcome). x.answer) (offset_is called fd now S o kind is unlike)))
-      (sym (release_valid (with_open S t o new) offset_valid) ∙ ap release (sym made))
+  pub offset_done : IsAnswered (with_offset o moves) S (with_open S t o new) (answer.Reply reply)
+  offset_done = (
+    done.0.0,
+    sym (release_valid (with_open S t o new) offset_valid) ∙ ap release (sym made)
+        ∙ ap (λ (x : Outcome). release (put_all x.updates S)) (offset_is called fd now S o kind is unlike),
+  )
 
 -- the open that is left is of the same node
 pub offset_same : (now : ℕ) (t u : Tree) (called : Call) (kind new : OpenKind) (reply : Reply) → IsAtOffset (offset_outcome_of now t called kind) t u kind new reply

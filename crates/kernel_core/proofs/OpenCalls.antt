@@ -55,7 +55,7 @@ use Rattle.kernel_parts.specs.declared.opens.Opening.{Opening}
 use Rattle.kernel_core.proofs.Leaving.{counted_is, none_holds_or_carries, released_is}
 use Rattle.kernel_parts.proofs.Forgetting.{forgetting_none, used_still}
 use Rattle.kernel_parts.proofs.Lowest.{lowest_is}
-use Rattle.kernel_core.proofs.EntryCalls.{opened_is}
+use Rattle.kernel_core.proofs.FileCalls.{opened_is}
 
 -- ---- nothing is opened
 

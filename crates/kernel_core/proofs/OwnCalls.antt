@@ -3,11 +3,12 @@
 --     created_only, drawn_only, without_only, unlocked_only, signalled_only, waited_only, waited_stays      the calls whose updates are such
 --     left_last, left_alone, left_again, refused_same      the updates as a thread ends, which may have let a lock go
 --     own_left, own_kept, own_released      the state after them
---     step_kept, is_done      a call that comes to such updates
+--     IsOwnCall, own_call, own_call_kept, own_call_done      a call that comes to such updates: its state is kept, and it is done
 use Rattle.std.proofs.Common.{◌≡◌, ◌⊎◌, ℕ, true, false, List, [], ◌∷◌, Bool, Option, None, Some, IsSome, is_some, Result, Ok, Err, inl, inr, refl, sym, ap, subst, ◌∙◌}
 use Rattle.std.specs.Prelude.{OnErr, IfOk}
 use Rattle.std.specs.Ordering.{nat_cmp}
 use Rattle.std.specs.FinMap.{FinMap, get}
+use Rattle.std.specs.declared.alloc.AllocError.{AllocError}
 use Rattle.abi_structures.specs.declared.events.What.{What}
 use Rattle.clock_random.specs.Random.{words_of}
 use Rattle.abi_types.specs.declared.constants.Constants.{Constants}
@@ -19,7 +20,7 @@ use Rattle.abi_types.specs.declared.thread.Stage.{Stage}
 use Rattle.kernel_model.specs.Families.LockCalls.{signal_in, unlock_in, waited_outcome}
 use Rattle.kernel_model.specs.Families.Locks.{Release, handed, handed_own, handed_word, hands_on, leaves, refuses, release_of, released_threads, released_word, signalled, signalled_own, unlocked_own, with_threads}
 use Rattle.kernel_model.specs.Families.ProcessCalls.{end_updates, ended_process, is_last_thread, left_if_last, left_updates, made_in}
-use Rattle.kernel_model.specs.Outcome.{Outcome}
+use Rattle.kernel_model.specs.Outcome.{Outcome, IsSuccess}
 use Rattle.kernel_model.specs.OwnChanges.{drawn_more, with_next_thread, without_thread}
 use Rattle.kernel_model.specs.Release.{release}
 use Rattle.kernel_model.specs.State.{State, ProcessState, Threads, Update, put_all, set_process}
@@ -34,8 +35,10 @@ use Rattle.kernel_model.proofs.Tests.{none_is_no, not_true, same_some}
 use Rattle.kernel_model.proofs.ThreadCalls.{made_holds}
 use Rattle.kernel_model.proofs.Valids.{release_valid}
 use Rattle.kernel_parts.specs.OwnCalls.{own_after, IsOwnStep}
+use Rattle.kernel_model.specs.Done.{IsDone}
 use Rattle.kernel_core.specs.Kernel.{IsKept}
 use Rattle.kernel_core.specs.Threads.{is_last_in}
+use Rattle.kernel_core.proofs.Done.{done_as, done_seen}
 use Rattle.kernel_core.proofs.Leaving.{process_again, with_process}
 
 -- ---- such updates
@@ -161,29 +164,37 @@ module _ (S : State) (p : ℕ) (own : ProcessState) (there : get S.processes p �
     processes = kept.processes;
   }
 
-  -- the same where the process is the one that the call left, or the one that there was
-  pub step_kept : (E : Type 0) (r : Result Answer E) (o : Outcome) (new : ProcessState) (counts : FinMap nat_cmp ℕ) → OnlyOwn p own o.updates
-      → IfOk r (λ given. IsOwnStep own new given o) → OnErr r (new ≡ own) → IsKept S counts → IsKept (with_process S p new) counts
-  step_kept E (Ok given) o new counts only done same kept =
-      subst (λ x. IsKept (with_process S p x) counts) (sym done.1) (own_kept o.updates only counts kept)
-  step_kept E (Err e) o new counts only done same kept =
-      subst (λ x. IsKept (with_process S p x) counts) (sym same) (subst (λ T. IsKept T counts) (sym (process_again S p own there)) kept)
+-- ---- a call that comes to such updates
 
-  -- the same of a call that can't lack memory
-  pub plain_kept : (given : Answer) (o : Outcome) (new : ProcessState) (counts : FinMap nat_cmp ℕ) → OnlyOwn p own o.updates
-      → IsOwnStep own new given o → IsKept S counts → IsKept (with_process S p new) counts
-  plain_kept given o new counts only done kept =
-      subst (λ x. IsKept (with_process S p x) counts) (sym done.1) (own_kept o.updates only counts kept)
+-- It is of process p, whose own was this and becomes that, in the state S, which is seen as T and becomes U.
+pub record IsOwnCall (S T U : State) (p : ℕ) (own new : ProcessState) (does : Option ProcessState → Outcome) : Type 0 where
+  pub seen : S ≡ T
+  pub had : get S.processes p ≡ Some own
+  pub put : U ≡ with_process S p new
+  pub only : OnlyOwn p own (does (Some own)).updates
 
--- what is said of a call's answer, and of the state after it, where the call comes to this by what its process has of its own
-abbrev pub IsDone : ℕ → (Option ProcessState → Outcome) → State → Answer → State → Type 0
-IsDone p does S given T = (given ≡ (does (get S.processes p)).answer) × (T ≡ release (put_all (does (get S.processes p)).updates S))
+-- by the number under which the process is kept
+pub own_call : (S T U : State) (p n : ℕ) (own new : ProcessState) (does : Option ProcessState → Outcome) → n ≡ p → S ≡ T → Some own ≡ get S.processes n
+    → U ≡ with_process S n new → OnlyOwn p own (does (Some own)).updates → IsOwnCall S T U p own new does
+own_call S T U p n own new does same seen there put only =
+    record { seen = seen; had = ap (get S.processes) (sym same) ∙ sym there; put = put ∙ ap (λ k. with_process S k new) same; only = only }
 
-pub is_done : (S : State) (p : ℕ) (own new : ProcessState) (does : Option ProcessState → Outcome) (given : Answer) → get S.processes p ≡ Some own
-    → OnlyOwn p own (does (Some own)).updates → IsValid S → IsOwnStep own new given (does (Some own)) → IsDone p does S given (with_process S p new)
-is_done S p own new does given there only v done =
-    let same : does (get S.processes p) ≡ does (Some own) = ap does there in (
-      done.0 ∙ sym (ap (λ (o : Outcome). o.answer) same),
-      ap (with_process S p) done.1 ∙ own_released S p own there (does (Some own)).updates only v
-          ∙ sym (ap (λ (o : Outcome). release (put_all o.updates S)) same),
-    )
+module _ {S T U : State} {p : ℕ} {own new : ProcessState} {does : Option ProcessState → Outcome} (call : IsOwnCall S T U p own new does) where
+  pub own_call_kept : (r : Result Answer AllocError) (counts : FinMap nat_cmp ℕ) → IfOk r (λ given. IsOwnStep own new given (does (Some own)))
+      → OnErr r (new ≡ own) → IsKept S counts → IsKept U counts
+  own_call_kept (Ok given) counts done same kept =
+      subst (λ X. IsKept X counts) (sym (call.put ∙ ap (with_process S p) done.1)) (own_kept S p own call.had (does (Some own)).updates call.only counts kept)
+  own_call_kept (Err e) counts done same kept =
+      subst (λ X. IsKept X counts) (sym (call.put ∙ ap (with_process S p) same ∙ process_again S p own call.had)) kept
+
+  done_by : (r : Result Answer AllocError) → IfOk r (λ given. IsOwnStep own new given (does (Some own))) → OnErr r (IsSuccess (does (Some own)).answer)
+      → OnErr r (new ≡ own) → IsValid S → IsDone true (does (Some own)) S U r
+  done_by (Ok given) done succeeds same v =
+      (done.0, call.put ∙ ap (with_process S p) done.1 ∙ own_released S p own call.had (does (Some own)).updates call.only v)
+  done_by (Err e) done succeeds same v = (refl, succeeds, call.put ∙ ap (with_process S p) same ∙ process_again S p own call.had)
+
+  pub own_call_done : (r : Result Answer AllocError) → IfOk r (λ given. IsOwnStep own new given (does (Some own))) → OnErr r (IsSuccess (does (Some own)).answer)
+      → OnErr r (new ≡ own) → IsValid S → IsDone true (does (get T.processes p)) T U r
+  own_call_done r done succeeds same v =
+      done_seen S T call.seen true (λ X. does (get X.processes p)) U r
+      (done_as true (does (Some own)) (does (get S.processes p)) S U r (ap does (sym call.had)) (done_by r done succeeds same v))

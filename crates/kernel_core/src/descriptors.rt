@@ -1,13 +1,14 @@
 //! The calls that look at a process's descriptors or change them.
-ghost use Rattle.std.specs.Prelude.{◌≡◌, Some, IsSome, IfOk, OnErr};
+ghost use Rattle.std.specs.Prelude.{◌≡◌, Some, IsSome};
 ghost use Rattle.std.specs.FinMap as map;
+ghost use Rattle.abi_types.specs.Families.{call_of_change};
 ghost use Rattle.abi_types.specs.declared.reply.Answer.TheVariants as answer;
+ghost use Rattle.kernel_model.specs.Done.{IsDone};
+ghost use Rattle.kernel_model.specs.Calls.{takes_memory};
 ghost use Rattle.kernel_model.specs.Families.DescriptorCalls.{stat_get, stat_of, flags_of};
-ghost use Rattle.kernel_model.specs.Outcome.{IsSuccess};
-ghost use Rattle.kernel_model.specs.Release.{release};
-ghost use Rattle.kernel_model.specs.State.{put_all, Table};
+ghost use Rattle.kernel_model.specs.State.{Table};
 ghost use Rattle.kernel_model.specs.View.{whole};
-ghost use Rattle.kernel_parts.specs.Changes.{change_outcome, HasReplaced, IsDup};
+ghost use Rattle.kernel_parts.specs.Changes.{change_outcome, HasReplaced};
 
 use crate::kernel::Kernel;
 use abi_types::{
@@ -64,12 +65,9 @@ impl Kernel {
     ) -> Result<Answer, AllocError>
         requires there { IsSome (map.get self.old.statuses pid) }
         requires replaced { (table : Table) → map.get self.old.tables pid ≡ Some table → HasReplaced table change }
-        ensures ok { IfOk result (λ given. (table : Table) → map.get self.old.tables pid ≡ Some table →
-            (given ≡ (change_outcome pid self.old.opens table change).answer)
-            × (self.new ≡ release (put_all (change_outcome pid self.old.opens table change).updates self.old))) }
-        ensures takes { OnErr result (IsDup change) }
-        ensures only { OnErr result ((table : Table) → map.get self.old.tables pid ≡ Some table → IsSuccess (change_outcome pid self.old.opens table change).answer) }
-        ensures err { OnErr result (self.new ≡ self.old) }
+        ensures { (table : Table) → map.get self.old.tables pid ≡ Some table
+            → IsDone (takes_memory (call_of_change change)) (change_outcome pid self.old.opens table change)
+            self.old self.new result }
     {
         let p = u64::from(pid.0);
         let reply = change_table(self.tables.get_mut(p), &mut self.objects, change)?;

@@ -1,10 +1,8 @@
 //! Which part of the kernel does a call.
-ghost use Rattle.std.specs.Prelude.{◌≡◌, ◌+◌, ◌<◌, ◌^◌, true, false, IsSome, IfOk, OnErr};
+ghost use Rattle.std.specs.Prelude.{◌≡◌, ◌+◌, ◌<◌, ◌^◌, false, IsSome};
 ghost use Rattle.std.specs.FinMap as map;
+ghost use Rattle.kernel_model.specs.Done.{IsDone};
 ghost use Rattle.kernel_model.specs.Calls.{meaning_of, takes_memory};
-ghost use Rattle.kernel_model.specs.Outcome.{IsSuccess};
-ghost use Rattle.kernel_model.specs.Release.{release};
-ghost use Rattle.kernel_model.specs.State.{put_all};
 ghost use Rattle.kernel_model.specs.Step.{outcome_by};
 ghost use Rattle.kernel_model.specs.View.{whole};
 
@@ -26,10 +24,8 @@ impl Kernel {
         requires there { IsSome (map.get self.old.statuses who.now.pid) }
         requires events { (meaning_of call.now).by_stage ≡ false }
         requires early { self.old.clock + constants.now.epoch < 2 ^ 64 }
-        ensures ok { IfOk result (λ given. (given ≡ (outcome_by constants.now (whole self.old) who.now call.now).answer)
-            × (self.new ≡ release (put_all (outcome_by constants.now (whole self.old) who.now call.now).updates self.old))) }
-        ensures err { OnErr result ((takes_memory call.now ≡ true)
-            × IsSuccess (outcome_by constants.now (whole self.old) who.now call.now).answer × (self.new ≡ self.old)) }
+        ensures { IsDone (takes_memory call.now) (outcome_by constants.now (whole self.old) who.now call.now)
+            self.old self.new result }
     {
         let Some(table) = self.tables.get(u64::from(who.pid.0)) else {
             return Ok(Answer::Reply(refused(Errno::Badf)));

@@ -1,13 +1,13 @@
 //! The call that makes two ends: of a pipe, or of a pair of sockets.
-ghost use Rattle.std.specs.Prelude.{◌≡◌, ◌+◌, ◌<◌, ◌^◌, ℕ, Some, IsSome, IfOk, IfErr, OnErr};
+ghost use Rattle.std.specs.Prelude.{◌≡◌, ◌+◌, ◌<◌, ◌^◌, ℕ, Some, IsSome, IfOk, IfErr, true};
 ghost use Rattle.std.specs.FinMap as map;
 ghost use Rattle.std.specs.Option.{option_map};
 ghost use Rattle.channel_calls.specs.Pairs.{model_of};
+ghost use Rattle.kernel_model.specs.Done.{IsDone};
 ghost use Rattle.kernel_core.specs.Ends.{IsPair};
 ghost use Rattle.kernel_model.specs.Families.SocketCalls as model;
-ghost use Rattle.kernel_model.specs.Outcome.{IsSuccess, replies};
-ghost use Rattle.kernel_model.specs.Release.{release};
-ghost use Rattle.kernel_model.specs.State.{put_all, Table};
+ghost use Rattle.kernel_model.specs.Outcome.{replies};
+ghost use Rattle.kernel_model.specs.State.{Table};
 ghost use Rattle.kernel_model.specs.Valid.{IsValid};
 
 use crate::kernel::Kernel;
@@ -81,12 +81,9 @@ impl Kernel {
     pub(crate) fn fd_create2(&mut self, who: &Who, kind: u32) -> Result<Answer, AllocError>
         requires there { IsSome (map.get self.old.statuses who.now.pid) }
         requires valid { IsValid self.old }
-        ensures ok { IfOk result (λ given. (table : Table) → map.get self.old.tables who.now.pid ≡ Some table →
-            (given ≡ (model.create (model.made_of kind) who.now.pid who.now.tid (map.get self.old.processes who.now.pid) table).answer)
-            × (self.new ≡ release (put_all (model.create (model.made_of kind) who.now.pid who.now.tid (map.get self.old.processes who.now.pid) table).updates self.old))) }
-        ensures only { OnErr result ((table : Table) → map.get self.old.tables who.now.pid ≡ Some table →
-            IsSuccess (model.create (model.made_of kind) who.now.pid who.now.tid (map.get self.old.processes who.now.pid) table).answer) }
-        ensures err { OnErr result (self.new ≡ self.old) }
+        ensures { (table : Table) → map.get self.old.tables who.now.pid ≡ Some table
+            → IsDone true (model.create (model.made_of kind) who.now.pid who.now.tid (map.get self.old.processes who.now.pid) table)
+            self.old self.new result }
     {
         let Some(kind) = pair_of(kind) else {
             return Ok(Answer::Reply(refused(Errno::Notsup)));

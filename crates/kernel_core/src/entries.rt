@@ -1,13 +1,12 @@
 //! The calls that make names of files, move them or take them away.
-ghost use Rattle.std.specs.Prelude.{◌≡◌, ◌+◌, ◌<◌, ◌^◌, true, Some, IsSome, IfOk, OnErr};
+ghost use Rattle.std.specs.Prelude.{◌≡◌, ◌+◌, ◌<◌, ◌^◌, Some, IsSome};
 ghost use Rattle.std.specs.FinMap as map;
 ghost use Rattle.abi_types.specs.Families.{call_of_entry};
+ghost use Rattle.kernel_model.specs.Done.{IsDone};
 ghost use Rattle.kernel_core.specs.Entries.{entry_outcome};
 ghost use Rattle.kernel_model.specs.Calls.{takes_memory};
 ghost use Rattle.kernel_model.specs.Families.EntryCalls as model;
-ghost use Rattle.kernel_model.specs.Outcome.{IsSuccess};
-ghost use Rattle.kernel_model.specs.Release.{release};
-ghost use Rattle.kernel_model.specs.State.{put_all, Table};
+ghost use Rattle.kernel_model.specs.State.{Table};
 
 use crate::kernel::Kernel;
 use abi_types::{Answer, Constants, EntryCall, Errno, Pid};
@@ -29,13 +28,9 @@ impl Kernel {
         requires on { model.entry_fds (call_of_entry call) ≡ Some (fd, other) }
         requires named { (table : Table) → map.get self.old.tables pid ≡ Some table → IsSome (map.get table fd) }
         requires early { self.old.clock + constants.now.epoch < 2 ^ 64 }
-        ensures ok { IfOk result (λ given. (table : Table) → map.get self.old.tables pid ≡ Some table →
-            (given ≡ (entry_outcome constants.now self.old pid table fd other (call_of_entry call.entry)).answer)
-            × (self.new ≡ release (put_all (entry_outcome constants.now self.old pid table fd other (call_of_entry call.entry)).updates self.old))) }
-        ensures takes { OnErr result (takes_memory (call_of_entry call.entry) ≡ true) }
-        ensures only { OnErr result ((table : Table) → map.get self.old.tables pid ≡ Some table →
-            IsSuccess (entry_outcome constants.now self.old pid table fd other (call_of_entry call.entry)).answer) }
-        ensures err { OnErr result (self.new ≡ self.old) }
+        ensures { (table : Table) → map.get self.old.tables pid ≡ Some table
+            → IsDone (takes_memory (call_of_entry call.entry))
+            (entry_outcome constants.now self.old pid table fd other (call_of_entry call.entry)) self.old self.new result }
     {
         let Some((_, here)) = open_of(&self.tables, &self.objects, pid, fd) else {
             return Ok(Answer::Reply(refused(Errno::Badf)));

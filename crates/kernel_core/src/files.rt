@@ -1,13 +1,12 @@
 //! The calls on the file or the directory that an open is of.
-ghost use Rattle.std.specs.Prelude.{◌≡◌, ◌+◌, ◌<◌, ◌^◌, true, Some, IfOk, OnErr};
+ghost use Rattle.std.specs.Prelude.{◌≡◌, ◌+◌, ◌<◌, ◌^◌, Some};
 ghost use Rattle.std.specs.FinMap as map;
 ghost use Rattle.abi_types.specs.Families.{call_of_file};
+ghost use Rattle.kernel_model.specs.Done.{IsDone};
 ghost use Rattle.kernel_core.specs.Files.{file_outcome};
 ghost use Rattle.kernel_model.specs.Calls.{takes_memory};
 ghost use Rattle.kernel_model.specs.Families.FileCalls as model;
-ghost use Rattle.kernel_model.specs.Outcome.{IsSuccess};
-ghost use Rattle.kernel_model.specs.Release.{release};
-ghost use Rattle.kernel_model.specs.State.{put_all, Table};
+ghost use Rattle.kernel_model.specs.State.{Table};
 
 use crate::kernel::Kernel;
 use abi_types::{Answer, Constants, Errno, FileCall, Pid};
@@ -27,13 +26,9 @@ impl Kernel {
     ) -> Result<Answer, AllocError>
         requires on { model.file_fd (call_of_file call) ≡ Some fd }
         requires early { self.old.clock + constants.now.epoch < 2 ^ 64 }
-        ensures ok { IfOk result (λ given. (table : Table) → map.get self.old.tables pid ≡ Some table →
-            (given ≡ (file_outcome constants.now self.old table fd (call_of_file call.entry)).answer)
-            × (self.new ≡ release (put_all (file_outcome constants.now self.old table fd (call_of_file call.entry)).updates self.old))) }
-        ensures takes { OnErr result (takes_memory (call_of_file call.entry) ≡ true) }
-        ensures only { OnErr result ((table : Table) → map.get self.old.tables pid ≡ Some table →
-            IsSuccess (file_outcome constants.now self.old table fd (call_of_file call.entry)).answer) }
-        ensures err { OnErr result (self.new ≡ self.old) }
+        ensures { (table : Table) → map.get self.old.tables pid ≡ Some table
+            → IsDone (takes_memory (call_of_file call.entry))
+            (file_outcome constants.now self.old table fd (call_of_file call.entry)) self.old self.new result }
     {
         let Some((_, kind)) = open_of(&self.tables, &self.objects, pid, fd) else {
             return Ok(Answer::Reply(refused(Errno::Badf)));

@@ -1,10 +1,11 @@
 //! The call that makes a child of a process.
-ghost use Rattle.std.specs.Prelude.{◌≡◌, ℕ, Some, IsSome, IfOk, IfErr, OnOk, OnErr};
+ghost use Rattle.std.specs.Prelude.{◌≡◌, ℕ, Some, IsSome, IfOk, IfErr, OnOk, OnErr, true};
 ghost use Rattle.std.specs.FinMap as map;
+ghost use Rattle.kernel_model.specs.Done.{IsDone};
 ghost use Rattle.kernel_core.specs.Forks.{IsChildOf};
 ghost use Rattle.kernel_model.specs.Families.DescriptorCalls.{lowest_free};
 ghost use Rattle.kernel_model.specs.Families.ForkCalls.{fork_at, fork_updates, forked_reply};
-ghost use Rattle.kernel_model.specs.Outcome.{IsSuccess, replies};
+ghost use Rattle.kernel_model.specs.Outcome.{replies};
 ghost use Rattle.kernel_model.specs.Release.{release};
 ghost use Rattle.kernel_model.specs.State.{ProcessState, put_all, Table};
 ghost use Rattle.kernel_model.specs.Valid.{IsValid};
@@ -61,12 +62,9 @@ impl Kernel {
     pub(crate) fn proc_fork(&mut self, who: &Who, left: u64) -> Result<Answer, AllocError>
         requires there { IsSome (map.get self.old.statuses who.now.pid) }
         requires valid { IsValid self.old }
-        ensures ok { IfOk result (λ given. (table : Table) → map.get self.old.tables who.now.pid ≡ Some table →
-            (given ≡ (fork_at left who.now.pid who.now.tid (map.get self.old.processes who.now.pid) table (lowest_free table)).answer)
-            × (self.new ≡ release (put_all (fork_at left who.now.pid who.now.tid (map.get self.old.processes who.now.pid) table (lowest_free table)).updates self.old))) }
-        ensures only { OnErr result ((table : Table) → map.get self.old.tables who.now.pid ≡ Some table →
-            IsSuccess (fork_at left who.now.pid who.now.tid (map.get self.old.processes who.now.pid) table (lowest_free table)).answer) }
-        ensures err { OnErr result (self.new ≡ self.old) }
+        ensures { (table : Table) → map.get self.old.tables who.now.pid ≡ Some table
+            → IsDone true (fork_at left who.now.pid who.now.tid (map.get self.old.processes who.now.pid) table (lowest_free table))
+            self.old self.new result }
     {
         let plan = match self.plan_fork(who, left) {
             Ok(plan) => plan,

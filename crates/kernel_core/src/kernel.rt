@@ -146,8 +146,9 @@ impl Kernel {
     /// A call of a live process's runnable thread in a run with these constants: the answer, and the state after it. Each
     /// call takes 1000 nanoseconds, and is made at the moment after these. `Errno::Nomem` comes only where memory runs out in a
     /// call that would else succeed or wait, and then only the clock has moved. A call that answers any other error moves only the
-    /// clock too, and one that waits moves only the clock and its thread. `Errno::Notcapable` comes with exactly the rights that are
-    /// missing, or with the component at which a path leads outside, whether memory runs out or not.
+    /// clock too. One that waits moves only the clock and its thread, and where it waits at a condition variable how others wait for the lock
+    /// that it lets go. `Errno::Notcapable` comes with exactly the rights that are missing, or with the component at which a path leads outside,
+    /// whether memory runs out or not.
     pub fn step(&mut self, constants: &Constants, pid: Pid, tid: Tid, call: &Call) -> Answer
         requires live { map.get self.old.statuses pid ≡ Some Status.Live }
         requires runnable { thread_of self.old pid tid ≡ Some Thread.Runnable }

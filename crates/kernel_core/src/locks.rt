@@ -1,7 +1,8 @@
 //! Calls on locks and condition variables, and polls of them.
 ghost use Rattle.std.specs.Prelude.{◌≡◌, ◌<◌, ◌^◌, false, IfSome, IfNone, IsSome};
 ghost use Rattle.std.specs.FinMap as map;
-ghost use Rattle.kernel_core.specs.Locks.{BeginsWith, IsDoneBy};
+ghost use Rattle.kernel_model.specs.Done.{IsAnswered};
+ghost use Rattle.kernel_core.specs.Locks.{BeginsWith};
 ghost use Rattle.kernel_model.specs.Calls.{meaning_of};
 ghost use Rattle.kernel_model.specs.Families.LockCalls.{signal_in, unlock_in, waited_outcome};
 ghost use Rattle.kernel_model.specs.State.{thread_of};
@@ -30,7 +31,8 @@ impl Kernel {
     // Lets go of the lock at this address, whose word is this.
     pub(crate) fn lock_unlock(&mut self, who: &Who, lock: u64, word: u32) -> Answer
         requires there { IsSome (map.get self.old.statuses who.now.pid) }
-        ensures { IsDoneBy who.now.pid (unlock_in who.now.pid who.now.tid lock word) self.old result self.new }
+        ensures { IsAnswered (unlock_in who.now.pid who.now.tid lock word (map.get self.old.processes who.now.pid))
+            self.old self.new result }
     {
         let mut told = Told::new();
         let own = self.processes.get_mut(u64::from(who.pid.0));
@@ -42,7 +44,8 @@ impl Kernel {
     // Signals so many of the threads that wait at the condition variable at this address.
     pub(crate) fn condvar_signal(&mut self, who: &Who, condvar: u64, n: u32) -> Answer
         requires there { IsSome (map.get self.old.statuses who.now.pid) }
-        ensures { IsDoneBy who.now.pid (signal_in who.now.pid condvar n) self.old result self.new }
+        ensures { IsAnswered (signal_in who.now.pid condvar n (map.get self.old.processes who.now.pid))
+            self.old self.new result }
     {
         let mut told = Told::new();
         let own = self.processes.get_mut(u64::from(who.pid.0));
@@ -54,7 +57,9 @@ impl Kernel {
     // What a poll of a lock or a condition variable comes to that isn't refused, before its thread waits.
     fn ask_lock(&mut self, who: &Who, first: &Subscription) -> Answer
         requires there { IsSome (thread_of self.old who.now.pid who.now.tid) }
-        ensures done { IsDoneBy who.now.pid (waited_outcome first.now.userdata first.now.what who.now.pid who.now.tid who.now.stage) self.old result self.new }
+        ensures done { IsAnswered
+            (waited_outcome first.now.userdata first.now.what who.now.pid who.now.tid who.now.stage (map.get self.old.processes who.now.pid))
+            self.old self.new result }
         ensures there { IsSome (thread_of self.new who.now.pid who.now.tid) }
         ensures moment { self.new.clock ≡ self.old.clock }
     {

@@ -1,14 +1,13 @@
 //! The calls that move an open: they read or write where the last one ended, or set that place.
-ghost use Rattle.std.specs.Prelude.{◌≡◌, ◌+◌, ◌^◌, ◌<◌, ℕ, Some, IfOk, OnErr, true};
+ghost use Rattle.std.specs.Prelude.{◌≡◌, ◌+◌, ◌^◌, ◌<◌, ℕ, Some};
 ghost use Rattle.std.specs.FinMap as map;
 ghost use Rattle.abi_types.specs.Families.{call_of_offset};
 ghost use Rattle.channel_calls.specs.Calls.{end_outcome};
 ghost use Rattle.fd_calls.specs.Calls as model;
+ghost use Rattle.kernel_model.specs.Done.{IsDone};
 ghost use Rattle.kernel_core.specs.OffsetCalls.{offset_outcome};
 ghost use Rattle.kernel_model.specs.Calls.{takes_memory};
-ghost use Rattle.kernel_model.specs.Outcome.{IsSuccess};
-ghost use Rattle.kernel_model.specs.Release.{release};
-ghost use Rattle.kernel_model.specs.State.{put_all, Table};
+ghost use Rattle.kernel_model.specs.State.{Table};
 
 use crate::kernel::Kernel;
 use abi_types::{Answer, Constants, Errno, OffsetCall, OpenKind, Pid};
@@ -23,11 +22,8 @@ impl Kernel {
     // ends. `Err` changes nothing.
     fn end_call(&mut self, kind: &OpenKind, call: OffsetCall<'_>) -> Result<Answer, AllocError>
         requires there { (o : ℕ) × (map.get self.old.opens o ≡ Some kind.now) }
-        ensures ok { IfOk result (λ given. (given ≡ (end_outcome self.old.chans kind.now (call_of_offset call.entry)).answer)
-            × (self.new ≡ release (put_all (end_outcome self.old.chans kind.now (call_of_offset call.entry)).updates self.old))) }
-        ensures takes { OnErr result (takes_memory (call_of_offset call.entry) ≡ true) }
-        ensures only { OnErr result (IsSuccess (end_outcome self.old.chans kind.now (call_of_offset call.entry)).answer) }
-        ensures err { OnErr result (self.new ≡ self.old) }
+        ensures { IsDone (takes_memory (call_of_offset call.entry))
+            (end_outcome self.old.chans kind.now (call_of_offset call.entry)) self.old self.new result }
     {
         let answer = on_end(
             self.alloc,
@@ -57,13 +53,9 @@ impl Kernel {
     ) -> Result<Answer, AllocError>
         requires on { model.offset_fd (call_of_offset call) ≡ Some fd }
         requires early { self.old.clock + constants.now.epoch < 2 ^ 64 }
-        ensures ok { IfOk result (λ given. (table : Table) → map.get self.old.tables pid ≡ Some table →
-            (given ≡ (offset_outcome constants.now self.old table fd (call_of_offset call.entry)).answer)
-            × (self.new ≡ release (put_all (offset_outcome constants.now self.old table fd (call_of_offset call.entry)).updates self.old))) }
-        ensures takes { OnErr result (takes_memory (call_of_offset call.entry) ≡ true) }
-        ensures only { OnErr result ((table : Table) → map.get self.old.tables pid ≡ Some table →
-            IsSuccess (offset_outcome constants.now self.old table fd (call_of_offset call.entry)).answer) }
-        ensures err { OnErr result (self.new ≡ self.old) }
+        ensures { (table : Table) → map.get self.old.tables pid ≡ Some table
+            → IsDone (takes_memory (call_of_offset call.entry))
+            (offset_outcome constants.now self.old table fd (call_of_offset call.entry)) self.old self.new result }
     {
         let Some((descriptor, kind)) = open_of(&self.tables, &self.objects, pid, fd) else {
             return Ok(Answer::Reply(refused(Errno::Badf)));

@@ -1,11 +1,11 @@
 //! The call that opens what a path leads to.
-ghost use Rattle.std.specs.Prelude.{◌≡◌, ◌+◌, ◌<◌, ◌^◌, ℕ, Some, IsSome, IfOk, IfErr, OnErr};
+ghost use Rattle.std.specs.Prelude.{◌≡◌, ◌+◌, ◌<◌, ◌^◌, ℕ, Some, IsSome, IfOk, IfErr, true};
 ghost use Rattle.std.specs.FinMap as map;
+ghost use Rattle.kernel_model.specs.Done.{IsDone};
 ghost use Rattle.kernel_core.specs.Opening.{IsOpening, open_outcome};
 ghost use Rattle.kernel_model.specs.Families.ClockCalls.{real_time};
-ghost use Rattle.kernel_model.specs.Outcome.{IsSuccess, replies};
-ghost use Rattle.kernel_model.specs.Release.{release};
-ghost use Rattle.kernel_model.specs.State.{put_all, Table};
+ghost use Rattle.kernel_model.specs.Outcome.{replies};
+ghost use Rattle.kernel_model.specs.State.{Table};
 
 use crate::kernel::Kernel;
 use abi_types::{Answer, Constants, Errno, ObjId, OpenCall, Pid, Reply};
@@ -59,12 +59,10 @@ impl Kernel {
     ) -> Result<Answer, AllocError>
         requires there { IsSome (map.get self.old.statuses pid) }
         requires early { self.old.clock + constants.now.epoch < 2 ^ 64 }
-        ensures ok { IfOk result (λ given. (table : Table) → map.get self.old.tables pid ≡ Some table →
-            (given ≡ (open_outcome (real_time constants.now self.old.clock) self.old pid table call.now.lookup call.now.path.now call.now.oflags call.now.stat).answer)
-            × (self.new ≡ release (put_all (open_outcome (real_time constants.now self.old.clock) self.old pid table call.now.lookup call.now.path.now call.now.oflags call.now.stat).updates self.old))) }
-        ensures only { OnErr result ((table : Table) → map.get self.old.tables pid ≡ Some table →
-            IsSuccess (open_outcome (real_time constants.now self.old.clock) self.old pid table call.now.lookup call.now.path.now call.now.oflags call.now.stat).answer) }
-        ensures err { OnErr result (self.new ≡ self.old) }
+        ensures { (table : Table) → map.get self.old.tables pid ≡ Some table
+            → IsDone true
+            (open_outcome (real_time constants.now self.old.clock) self.old pid table call.now.lookup call.now.path.now call.now.oflags call.now.stat)
+            self.old self.new result }
     {
         let opening = match self.plan_opening(pid, call) {
             Ok(opening) => opening,

@@ -4,6 +4,7 @@ ghost use Rattle.std.specs.FinMap as map;
 ghost use Rattle.clock_random.specs.Random.{random_bytes};
 ghost use Rattle.elf_image.specs.Checks.{fault_of};
 ghost use Rattle.fd_table.specs.Table.{IsTable};
+ghost use Rattle.kernel_model.specs.Done.{IsDone};
 ghost use Rattle.kernel_core.specs.Programs.{Begins, begun_updates, exec_outcome, IsProgram};
 ghost use Rattle.kernel_model.specs.Families.ClockCalls.{can_draw};
 ghost use Rattle.kernel_model.specs.Families.ForkCalls.{exec_checked, listed};
@@ -169,12 +170,9 @@ impl Kernel {
     ) -> Result<Answer, AllocError>
         requires there { IsSome (map.get self.old.statuses who.now.pid) }
         requires valid { IsValid self.old }
-        ensures ok { IfOk result (λ given. (table : Table) → map.get self.old.tables who.now.pid ≡ Some table →
-            (given ≡ (exec_outcome constants.now.key self.old who.now.pid who.now.tid table fd fds.now).answer)
-            × (self.new ≡ release (put_all (exec_outcome constants.now.key self.old who.now.pid who.now.tid table fd fds.now).updates self.old))) }
-        ensures only { OnErr result ((table : Table) → map.get self.old.tables who.now.pid ≡ Some table →
-            IsSuccess (exec_outcome constants.now.key self.old who.now.pid who.now.tid table fd fds.now).answer) }
-        ensures err { OnErr result (self.new ≡ self.old) }
+        ensures { (table : Table) → map.get self.old.tables who.now.pid ≡ Some table
+            → IsDone true (exec_outcome constants.now.key self.old who.now.pid who.now.tid table fd fds.now)
+            self.old self.new result }
     {
         let NewProgram { elf, canary, table } = match self.plan_exec(constants, who, fd, fds)? {
             Ok(new) => new,

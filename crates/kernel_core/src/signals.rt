@@ -1,10 +1,9 @@
 //! The call that raises a signal.
-ghost use Rattle.std.specs.Prelude.{◌≡◌, IsSome};
+ghost use Rattle.std.specs.Prelude.{IsSome};
 ghost use Rattle.std.specs.FinMap as map;
 ghost use Rattle.abi_types.specs.declared.reply.Answer.TheVariants as answer;
+ghost use Rattle.kernel_model.specs.Done.{IsAnswered};
 ghost use Rattle.kernel_model.specs.Families.ProcessCalls.{raise_of, signal_of};
-ghost use Rattle.kernel_model.specs.Release.{release};
-ghost use Rattle.kernel_model.specs.State.{put_all};
 ghost use Rattle.kernel_model.specs.Valid.{IsValid};
 
 use crate::kernel::Kernel;
@@ -17,10 +16,8 @@ impl Kernel {
     pub(crate) fn proc_raise(&mut self, who: &Who, signal: u32) -> Reply
         requires there { IsSome (map.get self.old.statuses who.now.pid) }
         requires valid { IsValid self.old }
-        ensures reply { answer.Reply result
-            ≡ (raise_of who.now.pid (map.get self.old.processes who.now.pid) (signal_of signal)).answer }
-        ensures state { self.new
-            ≡ release (put_all (raise_of who.now.pid (map.get self.old.processes who.now.pid) (signal_of signal)).updates self.old) }
+        ensures { IsAnswered (raise_of who.now.pid (map.get self.old.processes who.now.pid) (signal_of signal))
+            self.old self.new (answer.Reply result) }
     {
         match effect_of(signal) {
             Raised::Unknown => refused(Errno::Inval),

@@ -1,12 +1,11 @@
 //! The calls on sockets.
-ghost use Rattle.std.specs.Prelude.{◌≡◌, Some, IsSome, IfOk, OnErr, true};
+ghost use Rattle.std.specs.Prelude.{◌≡◌, Some, IsSome};
 ghost use Rattle.std.specs.FinMap as map;
 ghost use Rattle.abi_types.specs.Families.{call_of_socket};
+ghost use Rattle.kernel_model.specs.Done.{IsDone};
 ghost use Rattle.kernel_core.specs.Sockets.{socket_on};
 ghost use Rattle.kernel_model.specs.Calls.{takes_memory};
-ghost use Rattle.kernel_model.specs.Outcome.{IsSuccess};
-ghost use Rattle.kernel_model.specs.Release.{release};
-ghost use Rattle.kernel_model.specs.State.{put_all, Table};
+ghost use Rattle.kernel_model.specs.State.{Table};
 ghost use Rattle.kernel_parts.specs.Waiting.{fd_of_socket};
 
 use crate::kernel::Kernel;
@@ -35,13 +34,9 @@ impl Kernel {
         call: SocketCall<'_>,
     ) -> Result<Answer, AllocError>
         requires there { IsSome (map.get self.old.statuses pid) }
-        ensures ok { IfOk result (λ given. (table : Table) → map.get self.old.tables pid ≡ Some table →
-            (given ≡ (socket_on self.old pid table (fd_of_socket call.entry) (call_of_socket call.entry)).answer)
-            × (self.new ≡ release (put_all (socket_on self.old pid table (fd_of_socket call.entry) (call_of_socket call.entry)).updates self.old))) }
-        ensures takes { OnErr result (takes_memory (call_of_socket call.entry) ≡ true) }
-        ensures only { OnErr result ((table : Table) → map.get self.old.tables pid ≡ Some table →
-            IsSuccess (socket_on self.old pid table (fd_of_socket call.entry) (call_of_socket call.entry)).answer) }
-        ensures err { OnErr result (self.new ≡ self.old) }
+        ensures { (table : Table) → map.get self.old.tables pid ≡ Some table
+            → IsDone (takes_memory (call_of_socket call.entry))
+            (socket_on self.old pid table (fd_of_socket call.entry) (call_of_socket call.entry)) self.old self.new result }
     {
         let fd = socket_fd(call);
         let Some((_, kind)) = open_of(&self.tables, &self.objects, pid, fd) else {

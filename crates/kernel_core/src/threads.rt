@@ -1,10 +1,10 @@
 //! The calls that make threads and end them.
-ghost use Rattle.std.specs.Prelude.{◌≡◌, IsSome, IfOk, OnErr};
+ghost use Rattle.std.specs.Prelude.{◌≡◌, IsSome, true};
 ghost use Rattle.std.specs.FinMap as map;
 ghost use Rattle.abi_types.specs.declared.reply.Answer.TheVariants as answer;
+ghost use Rattle.kernel_model.specs.Done.{IsAnswered, IsDone};
 ghost use Rattle.kernel_core.specs.Threads.{is_last_in, IsReleasedBy};
 ghost use Rattle.kernel_model.specs.Families.ProcessCalls.{left_in, left_updates, made_in};
-ghost use Rattle.kernel_model.specs.Outcome.{IsSuccess};
 ghost use Rattle.kernel_model.specs.Release.{release};
 ghost use Rattle.kernel_model.specs.State.{put_all};
 ghost use Rattle.kernel_model.specs.Valid.{IsValid};
@@ -20,10 +20,8 @@ impl Kernel {
     // Makes a thread of the caller's process. `Err` changes nothing.
     pub(crate) fn thread_create(&mut self, who: &Who) -> Result<Answer, AllocError>
         requires there { IsSome (map.get self.old.statuses who.now.pid) }
-        ensures ok { IfOk result (λ given. (given ≡ (made_in who.now.pid who.now.tid (map.get self.old.processes who.now.pid)).answer)
-            × (self.new ≡ release (put_all (made_in who.now.pid who.now.tid (map.get self.old.processes who.now.pid)).updates self.old))) }
-        ensures only { OnErr result (IsSuccess (made_in who.now.pid who.now.tid (map.get self.old.processes who.now.pid)).answer) }
-        ensures err { OnErr result (self.new ≡ self.old) }
+        ensures { IsDone true (made_in who.now.pid who.now.tid (map.get self.old.processes who.now.pid))
+            self.old self.new result }
     {
         let own = self.processes.get_mut(u64::from(who.pid.0));
         own.make_thread(who.tid)
@@ -68,10 +66,8 @@ impl Kernel {
     pub(crate) fn thread_exit(&mut self, who: &Who, lock: u64, word: u32) -> Reply
         requires there { IsSome (map.get self.old.statuses who.now.pid) }
         requires valid { IsValid self.old }
-        ensures reply { answer.Reply result
-            ≡ (left_in who.now.pid who.now.tid lock word (map.get self.old.processes who.now.pid)).answer }
-        ensures state { self.new
-            ≡ release (put_all (left_in who.now.pid who.now.tid lock word (map.get self.old.processes who.now.pid)).updates self.old) }
+        ensures { IsAnswered (left_in who.now.pid who.now.tid lock word (map.get self.old.processes who.now.pid))
+            self.old self.new (answer.Reply result) }
     {
         let Some(left) = self.release_lock(who, lock, word) else {
             return refused(Errno::Perm);

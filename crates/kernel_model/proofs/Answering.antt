@@ -1,4 +1,4 @@
--- The meanings of calls that only answer, and of those that aren't built yet, are proper.
+-- The meanings of calls that only answer, and of one that isn't offered, are proper.
 use Rattle.std.proofs.Common.{◌≡◌, ◌⊎◌, inl, inr, ℕ, List, [], ◌∷◌, None, refl}
 use Rattle.std.specs.FinMap.{get}
 use Rattle.std.specs.List.{AllByRecursion}
@@ -6,7 +6,7 @@ use Rattle.abi_base.specs.declared.errno.Errno.{Errno}
 use Rattle.abi_base.specs.declared.errno.Errno.TheVariants.{Success, Nosys}
 use Rattle.abi_types.specs.declared.needed.Needed.{Needed}
 use Rattle.abi_types.specs.declared.reply.Reply.{Reply}
-use Rattle.kernel_model.specs.Meaning.{answering, unbuilt, unbuilt_naming, unbuilt_row}
+use Rattle.kernel_model.specs.Meaning.{answering, unbuilt, unbuilt_naming}
 use Rattle.kernel_model.specs.Proper.{IsIn, IsProper, NeedsOf}
 use Rattle.kernel_model.specs.Families.DescriptorCalls.{needing}
 use Rattle.kernel_model.specs.Rows.{base_row}
@@ -49,16 +49,13 @@ pub answering_is_proper : (errors : List Errno) (reply : Reply) → reply.denial
     → IsProper (answering errors reply)
 answering_is_proper errors reply plain listed = replying_is_proper [] [] [] errors reply tt tt plain listed
 
--- ---- calls that aren't built yet
+-- ---- a call that isn't offered
 
 unbuilt_is_proper : (named : List ℕ) (need : List Needed) (seen : List ℕ) → AreNamed named need → AreNeeded need seen → IsProper (unbuilt named need seen)
 unbuilt_is_proper named need seen names sees = replying_is_proper named need seen (Nosys ∷ []) (refused Nosys) names sees refl (inr ([], [], refl))
 
 pub naming_is_proper : (fds : List ℕ) → IsProper (unbuilt_naming fds)
 naming_is_proper fds = unbuilt_is_proper fds [] [] tt tt
-
-pub row_is_proper : (row : Needed) → IsProper (unbuilt_row row)
-row_is_proper row = unbuilt_is_proper (row.fd ∷ []) (row ∷ []) (row.fd ∷ []) (([], [], refl), tt) ((row, ([], [], refl), refl), tt)
 
 -- the rows' own descriptors
 fds_named : (rows : List Needed) → AreNamed (fds_of rows) rows

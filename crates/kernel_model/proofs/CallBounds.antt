@@ -65,7 +65,6 @@ takes_none (call.FileRename fd path new_fd new_path) listed = absurd (not_true l
 takes_none (call.FileStatFget fd) listed = absurd (not_true listed)
 takes_none (call.FileStatFput fd stat flags) listed = absurd (not_true listed)
 takes_none (call.FileStatGet lookup path) listed = absurd (not_true listed)
-takes_none (call.FileStatPut lookup path stat flags) listed = absurd (not_true listed)
 takes_none (call.FileSymlink text fd path) listed = absurd (not_true listed)
 takes_none (call.FileUnlink fd path flags) listed = absurd (not_true listed)
 takes_none (call.RandomGet length) listed = absurd (not_true listed)

@@ -10,6 +10,7 @@ pub mod Codes
 pub mod View
 pub mod Reply
 pub mod Outcome
+pub mod Done
 pub mod Need
 pub mod Sight
 pub mod Rows

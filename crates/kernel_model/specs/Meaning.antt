@@ -63,7 +63,7 @@ answering errors reply = record {
   sends = [];
 }
 
--- ---- calls that aren't built yet: where no descriptor and no right is missing they answer NOSYS, and nothing changes
+-- ---- a call that isn't offered, as fd_create1: where no descriptor and no right is missing it answers NOSYS, and nothing changes
 
 -- one that names, needs and sees this
 abbrev pub unbuilt : List ℕ → List Needed → List ℕ → Meaning
@@ -72,7 +72,3 @@ unbuilt named need seen = record (answering (Nosys ∷ []) (refused Nosys)) { na
 -- one that names these descriptors, and needs no right
 abbrev pub unbuilt_naming : List ℕ → Meaning
 unbuilt_naming fds = unbuilt fds [] []
-
--- one that needs this of one descriptor
-abbrev pub unbuilt_row : Needed → Meaning
-unbuilt_row row = unbuilt (row.fd ∷ []) (row ∷ []) (row.fd ∷ [])

@@ -28,7 +28,7 @@ pub use lock_laws::{
     conditions_are_awaited, locks_are_asked, locks_are_handed_on, locks_are_let_go,
     signals_come_in_turn,
 };
-pub use open_laws::{open_is_listed, opens_lead_below};
+pub use open_laws::{open_is_listed, opens_lead_below, opens_stay_of_what_they_are};
 pub use poll_laws::{polls_await_clocks, polls_await_soonest, polls_tell_ready};
 pub use thread_laws::{
     clocks_show_time, random_bytes_are_drawn, threads_are_numbered, threads_end_alone,

@@ -1,9 +1,9 @@
 //! Command lines, as far as no run shows what they come to.
 use crate::calls::{Given, REPORT, answered};
 use crate::checks::check;
+use crate::hello_file::HELLO_FILE;
 use launch_run::Finished;
 use std::test::Fail;
-use unit_tests::HELLO_FILE;
 
 // Words, and the status and the text that they come to on the first program: not even the name of the running program, and
 // an empty one.

@@ -1,10 +1,10 @@
 //! The gate that a run's workers pass.
 use crate::calls::{Given, answered_through};
+use crate::hello_file::HELLO_FILE;
 use abi_base::{Pid, Tid};
 use launch_run::Gate;
 use std::sync::atomic::{AtomicU64, Ordering};
 use std::test::Fail;
-use unit_tests::HELLO_FILE;
 
 // What a worker has that is not between `before` and `after`.
 const NOTHING: u64 = u64::MAX;

@@ -11,6 +11,8 @@ mod command_lines;
 #[cfg(test)]
 mod gates;
 #[cfg(test)]
+mod hello_file;
+#[cfg(test)]
 mod holding_gates;
 #[cfg(test)]
 mod outside_faults;

@@ -1,8 +1,8 @@
 //! Faults of the outside: reads and writes that fail.
 use crate::calls::{Given, WORDS};
 use crate::checks::check;
+use crate::hello_file::HELLO_FILE;
 use std::test::Fail;
-use unit_tests::HELLO_FILE;
 
 // Which reads and writes fail, the status, what is written, and whether a record is kept. The sink takes 64 bytes, and
 // fails at its second call.

@@ -3,22 +3,22 @@ use Rattle.std.specs.Ordering.{nat_cmp}
 use Rattle.std.specs.FinMap.{FinMap, get, insert}
 use Rattle.abi_types.specs.declared.open_kind.OpenKind.{OpenKind}
 use Rattle.channel_calls.specs.Calls.{AllGoOn, AreFew, Channels}
-use Rattle.fd_table.specs.Sizes.{KeysBelow, below-insert_again}
+use Rattle.fd_table.specs.Sizes.{below-insert_again}
 use Rattle.tree_model.specs.Opens.{is_used}
 use Rattle.kernel_model.specs.OwnChanges.{begun_anew}
 use Rattle.kernel_model.specs.Release.{release}
 use Rattle.kernel_model.specs.Start.{canary_words}
 use Rattle.kernel_model.specs.State.{State, ProcessState, put_all}
-use Rattle.kernel_model.specs.Valid.{IsNearlyValid, IsValid}
-use Rattle.kernel_model.proofs.Valids.{release_restores, same_value, some_again}
+use Rattle.kernel_model.specs.Valid.{IsNearlyValid}
+use Rattle.kernel_model.proofs.Valids.{same_value, some_again}
 use Rattle.kernel_parts.specs.Released.{state_by}
-use Rattle.kernel_parts.proofs.Releases.{release_besides}
 use Rattle.process_calls.specs.Forks.{IsOpenOf}
 use Rattle.kernel_core.specs.Programs.{begun_updates}
 use Rattle.kernel_core.specs.contracts.kernel.Kernel.{the_view}
+use Rattle.kernel_core.proofs.Released.{kept_released, released_to}
 use Rattle.kernel_core.proofs.Channels.{AreCounted, covered_alone, table_counts}
 use Rattle.kernel_core.proofs.ForkCalls.{counts_room, opens_counted}
-use Rattle.kernel_core.proofs.Kept.{AreSmall, below_released, small_released, small_set}
+use Rattle.kernel_core.proofs.Kept.{small_set}
 use Rattle.kernel_core.proofs.kernel.Kernel.begin.Goals as goal
 use Rattle.kernel_core.proofs.kernel.Kernel.begin.Goals.{After-get_mut-own, After-release}
 
@@ -76,12 +76,7 @@ after c =
     ap (insert k.processes c.from-p.result) c.begin_anew.ensures ∙ ap (λ (p : ℕ). insert k.processes p new) same in
     let tables : insert k.tables c.from-p.result c.put_table.new.table ≡ insert k.tables c.args.pid c.args.table =
     ap (insert k.tables c.from-p.result) c.put_table.ensures.table ∙ ap (λ (p : ℕ). insert k.tables p c.args.table) same in
-    let given : state_by (insert k.tables c.from-p.result c.put_table.new.table) (insert k.processes c.from-p.result c.begin_anew.new.self) k.statuses
-    c.put_table.new.objects.kinds c.wake_waiting.new.channels k.tree
-    ≡ state_by (unreleased c).tables (unreleased c).processes k.statuses k.objects.kinds k.channels k.tree =
-    λ i. state_by (tables i) (own i) k.statuses (c.put_table.ensures.kinds i) (c.wake_waiting.ensures i) k.tree in
-    ap (λ (S : State). record S { clock = k.clock; terms = k.terms }) (c.release.ensures.state ∙ ap release given)
-    ∙ sym (release_besides (state_by (unreleased c).tables (unreleased c).processes k.statuses k.objects.kinds k.channels k.tree) k.clock k.terms)
+    released_to (unreleased c) _ _ (λ i. state_by (tables i) (own i) k.statuses (c.put_table.ensures.kinds i) (c.wake_waiting.ensures i) k.tree) c.release.ensures.state
 
 pub release-requires-clause-counted : goal.release-requires-clause-counted
 release-requires-clause-counted c =
@@ -117,18 +112,13 @@ invariant_of-self d =
     let k = a.self.inside in
     let there : IsSome (get k.tables a.args.pid) =
     ap (λ p. is_some (get k.tables p)) (sym (same g)) ∙ ap is_some (sym a.get_mut.ensures.value) in
-    let tables : a.release.new.tables ≡ (release (unreleased a)).tables = ap (λ (S : State). S.tables) (after a) in
     let nearly : IsNearlyValid (unreleased a) =
     subst (λ S. IsNearlyValid (put_all (begun_updates a.args.pid a.args.tid a.get_mut-own.result.now a.args.table) S)) (sym a.self.view_is)
     (a.requires.nearly a.get_mut-own.result.now (seen g)) in
-    record {
-      valid = subst IsValid (sym (after a)) (release_restores _ nearly);
-      counted = a.release.ensures.counted;
-      few = a.release.ensures.few (subst AreFew (sym a.wake_waiting.ensures) a.self.invariant.few);
-      small = subst AreSmall (sym tables) (small_released (unreleased a) (small_set k.tables a.args.pid a.args.table a.self.invariant.small a.requires.small));
-      processes = subst (KeysBelow (2 ^ 32)) (sym tables)
-          (below_released (unreleased a) (2 ^ 32) (below-insert_again (2 ^ 32) k.tables a.args.pid a.args.table a.self.invariant.processes there));
-    }
+    kept_released (unreleased a) (fields a) a.release.new.objects.counts (after a) nearly a.release.ensures.counted
+    (a.release.ensures.few (subst AreFew (sym a.wake_waiting.ensures) a.self.invariant.few))
+    (small_set k.tables a.args.pid a.args.table a.self.invariant.small a.requires.small)
+    (below-insert_again (2 ^ 32) k.tables a.args.pid a.args.table a.self.invariant.processes there)
 
 pub returns : goal.returns
 returns d = λ own here.

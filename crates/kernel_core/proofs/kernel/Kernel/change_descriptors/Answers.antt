@@ -1,26 +1,29 @@
-use Rattle.std.proofs.Common.{◌≡◌, ℕ, ◌^◌, List, Some, is_some, sym, ap, subst, ◌∙◌}
+use Rattle.std.proofs.Common.{◌≡◌, ℕ, ◌^◌, List, Some, Ok, is_some, sym, ap, subst, ◌∙◌}
 use Rattle.std.specs.Ordering.{nat_cmp}
 use Rattle.std.specs.FinMap.{FinMap, get, insert}
 use Rattle.abi_types.specs.declared.open_kind.OpenKind.{OpenKind}
 use Rattle.maps.specs.Maps.{insert_self}
-use Rattle.fd_table.specs.Sizes.{KeysBelow, below-insert_again}
+use Rattle.fd_table.specs.Sizes.{below-insert_again}
 use Rattle.fd_table.specs.Table.{IsTable}
 use Rattle.object_store.specs.Objects.{Held}
-use Rattle.kernel_model.specs.Outcome.{Outcome, IsSuccess}
+use Rattle.abi_types.specs.Families.{call_of_change}
+use Rattle.abi_types.specs.declared.reply.Answer.TheVariants as answer
+use Rattle.kernel_model.specs.Calls.{takes_memory}
 use Rattle.tree_model.specs.Opens.{is_used}
 use Rattle.kernel_model.specs.Release.{release}
-use Rattle.kernel_model.specs.State.{State, Table, Update, put_all}
-use Rattle.kernel_model.specs.Valid.{IsValid}
-use Rattle.kernel_model.proofs.Valids.{release_restores, same_value, some_again}
+use Rattle.kernel_model.specs.State.{State, Update, put_all}
+use Rattle.kernel_model.specs.Valid.{IsNearlyValid}
+use Rattle.kernel_model.proofs.Valids.{some_again}
 use Rattle.kernel_parts.specs.Released.{state_by}
-use Rattle.kernel_parts.proofs.Releases.{release_besides}
 use Rattle.kernel_parts.specs.Changes.{change_outcome, opens_after, table_after}
 use Rattle.kernel_core.specs.Kernel.{IsKept}
 use Rattle.kernel_core.specs.contracts.kernel.Kernel.{the_view}
+use Rattle.kernel_core.proofs.Released.{kept_released, released_to}
 use Rattle.kernel_core.proofs.Changes.{change_of_own, change_small, change_valid, puts_are}
 use Rattle.kernel_core.proofs.Channels.{counts_few, covered_alone, table_counts}
-use Rattle.kernel_core.proofs.Kept.{AreSmall, below_released, small_released, small_set}
-use Rattle.kernel_parts.proofs.Tests.{on_err}
+use Rattle.kernel_core.proofs.Done.{done_at, lacked}
+use Rattle.kernel_core.proofs.Families.{change_takes_memory}
+use Rattle.kernel_core.proofs.Kept.{small_set}
 use Rattle.kernel_core.proofs.Uses.{change_use}
 use Rattle.kernel_core.proofs.kernel.Kernel.change_descriptors.Goals as goal
 use Rattle.kernel_core.proofs.kernel.Kernel.change_descriptors.Goals.{In_err-reply, After-release}
@@ -61,19 +64,17 @@ still_kept c =
 pub invariant_of-self : goal.invariant_of-self
 invariant_of-self c = still_kept (goal.at.invariant_of-self c).In_err-reply
 
-pub returns-in_err-reply-clause-err : goal.returns-in_err-reply-clause-err
-returns-in_err-reply-clause-err c = on_err c.from_residual.result (as_before (goal.at.returns-in_err-reply-clause-err c).In_err-reply ∙ c.self.view_is)
-
 -- and the change would succeed
-pub returns-in_err-reply-clause-only : goal.returns-in_err-reply-clause-only
-returns-in_err-reply-clause-only c = on_err c.from_residual.result (λ table here.
-    let S = the_view c.self.inside in
-    let found : get S.tables c.args.pid ≡ Some c.get_mut.result.now = ap (get S.tables) (sym (c.from-p.ensures ∙ c.pid.view_is)) ∙ sym c.get_mut.ensures.value in
-    let same : c.get_mut.result.now ≡ table = same_value _ _ _ found (ap (λ (T : State). get T.tables c.args.pid) c.self.view_is ∙ here) in
-    subst (λ (o : Outcome). IsSuccess o.answer)
-    (ap (λ (t : Table). change_outcome c.args.pid S.opens t c.args.change) same
-    ∙ ap (λ (T : State). change_outcome c.args.pid T.opens table c.args.change) c.self.view_is)
-    (c.in_err-reply.ensures.only c.args.pid))
+pub returns-in_err-reply : goal.returns-in_err-reply
+returns-in_err-reply d = λ table here.
+    let c = (goal.at.returns-in_err-reply d).In_err-reply in
+    let S = the_view d.self.inside in
+    let takes = takes_memory (call_of_change d.args.change) in
+    let found : get S.tables d.args.pid ≡ Some d.get_mut.result.now = ap (get S.tables) (sym (d.from-p.ensures ∙ d.pid.view_is)) ∙ sym d.get_mut.ensures.value in
+    done_at S d.args.self.now d.self.view_is takes (λ X t. change_outcome d.args.pid X.opens t d.args.change) d.args.pid d.get_mut.result.now table (unchanged c)
+    d.from_residual.result found here
+    (lacked takes (change_outcome d.args.pid S.opens d.get_mut.result.now d.args.change) S (unchanged c) d.from_residual.result d.from_residual.ensures.0
+    (change_takes_memory d.args.change d.in_err-reply.ensures.takes) (d.in_err-reply.ensures.only d.args.pid) (as_before c))
 
 -- ---- the change, and what ends after it
 
@@ -116,18 +117,7 @@ puts c =
 released : (c : After-release) → fields c ≡ release (changed c)
 released c =
     let k = c.self.inside in
-    let given : state_by (insert k.tables c.from-p.result c.change_table.new.table) k.processes k.statuses c.change_table.new.objects.kinds k.channels k.tree
-    ≡ state_by (changed c).tables k.processes k.statuses (changed c).opens k.channels k.tree =
-    λ i. state_by (set c i) k.processes k.statuses (c.in_ok-reply.ensures.kinds c.args.pid i) k.channels k.tree in
-    ap (λ (S : State). record S { clock = k.clock; terms = k.terms }) (c.release.ensures.state ∙ ap release given)
-    ∙ sym (release_besides (state_by (changed c).tables k.processes k.statuses (changed c).opens k.channels k.tree) k.clock k.terms)
-
-after : (c : After-release) → fields c ≡ release (put_all (us c) (the_view c.self.inside))
-after c = released c ∙ sym (ap release (puts c))
-
--- the tables are what the release leaves of those before it
-tables_are : (c : After-release) → c.release.new.tables ≡ (release (changed c)).tables
-tables_are c = ap (λ (S : State). S.tables) (released c)
+    released_to (changed c) _ _ (λ i. state_by (set c i) k.processes k.statuses (c.in_ok-reply.ensures.kinds c.args.pid i) k.channels k.tree) c.release.ensures.state
 
 pub release-requires-clause-counted : goal.release-requires-clause-counted
 release-requires-clause-counted c =
@@ -165,25 +155,14 @@ invariant_of-self-2 d =
     let table = c.get_mut.result.now in
     let fits : IsTable (table_after table (us c)) =
     change_small c.args.pid k.objects.kinds table c.args.change (c.requires.replaced table (had c)) (c.self.invariant.small c.args.pid table (there c)) in
-    record {
-      valid = subst IsValid (sym (after c)) (release_restores _ (change_valid (the_view k) c.args.pid table c.args.change (there c) c.self.invariant.valid.nearly));
-      counted = c.release.ensures.counted;
-      few = c.release.ensures.few c.self.invariant.few;
-      small = subst AreSmall (sym (tables_are c)) (small_released (changed c) (small_set k.tables c.args.pid (table_after table (us c)) c.self.invariant.small fits));
-      processes = subst (KeysBelow (2 ^ 32)) (sym (tables_are c))
-          (below_released (changed c) (2 ^ 32)
-          (below-insert_again (2 ^ 32) k.tables c.args.pid (table_after table (us c)) c.self.invariant.processes (ap is_some (there c))));
-    }
+    kept_released (changed c) (fields c) c.release.new.objects.counts (released c)
+    (subst IsNearlyValid (puts c) (change_valid (the_view k) c.args.pid table c.args.change (there c) c.self.invariant.valid.nearly))
+    c.release.ensures.counted (c.release.ensures.few c.self.invariant.few) (small_set k.tables c.args.pid (table_after table (us c)) c.self.invariant.small fits)
+    (below-insert_again (2 ^ 32) k.tables c.args.pid (table_after table (us c)) c.self.invariant.processes (ap is_some (there c)))
 
-pub returns-clause-ok : goal.returns-clause-ok
-returns-clause-ok d = λ table here.
-    let c = (goal.at.returns-clause-ok d).After-release in
-    let k = c.self.inside in
-    let same : c.get_mut.result.now ≡ table = same_value _ _ _ (had c) here in
-    let outcome : change_outcome c.args.pid k.objects.kinds c.get_mut.result.now c.args.change ≡ change_outcome c.args.pid c.args.self.now.opens table c.args.change =
-    ap (λ (t : Table). change_outcome c.args.pid k.objects.kinds t c.args.change) same
-    ∙ ap (λ (S : State). change_outcome c.args.pid S.opens table c.args.change) c.self.view_is in (
-      c.in_ok-reply.ensures.reply c.args.pid ∙ ap (λ (o : Outcome). o.answer) outcome,
-      after c ∙ ap (λ (o : Outcome). release (put_all o.updates (the_view k))) outcome
-          ∙ ap (λ (S : State). release (put_all (change_outcome c.args.pid c.args.self.now.opens table c.args.change).updates S)) c.self.view_is,
-    )
+pub returns : goal.returns
+returns d = λ table here.
+    let c = (goal.at.returns d).After-release in
+    done_at (the_view d.self.inside) d.args.self.now d.self.view_is (takes_memory (call_of_change d.args.change))
+    (λ X t. change_outcome d.args.pid X.opens t d.args.change) d.args.pid d.get_mut.result.now table (fields c) (Ok (answer.Reply d.in_ok-reply.reply)) (there c) here
+    (d.in_ok-reply.ensures.reply d.args.pid, released c ∙ sym (ap release (puts c)))

@@ -1,17 +1,16 @@
-use Rattle.std.proofs.Common.{◌≡◌, ℕ, ◌^◌, List, Some, sym, ap, subst, ◌∙◌}
+use Rattle.std.proofs.Common.{◌≡◌, ℕ, List, Some, Ok, sym, ap, subst, ◌∙◌}
 use Rattle.std.specs.FinMap.{get}
 use Rattle.abi_types.specs.Families.{call_of_offset}
 use Rattle.channel_calls.specs.Calls.{channels_after, end_outcome}
-use Rattle.fd_table.specs.Sizes.{KeysBelow}
+use Rattle.kernel_model.specs.Calls.{takes_memory}
 use Rattle.kernel_model.specs.Release.{release}
 use Rattle.kernel_model.specs.State.{State, Update, put_all}
-use Rattle.kernel_model.specs.Valid.{IsValid}
-use Rattle.kernel_model.proofs.Valids.{release_restores}
+use Rattle.kernel_model.specs.Valid.{IsNearlyValid}
+use Rattle.kernel_core.proofs.Done.{done_seen, lacked}
 use Rattle.kernel_parts.specs.Released.{state_by}
-use Rattle.kernel_parts.proofs.Releases.{release_besides}
 use Rattle.kernel_core.specs.contracts.kernel.Kernel.{the_view}
+use Rattle.kernel_core.proofs.Released.{kept_released, released_to}
 use Rattle.kernel_core.proofs.Channels.{channels_put, end_going, end_nearly, end_sets}
-use Rattle.kernel_core.proofs.Kept.{AreSmall, below_released, small_released}
 use Rattle.kernel_core.proofs.kernel.Kernel.end_call.Goals as goal
 use Rattle.kernel_core.proofs.kernel.Kernel.end_call.Goals.{After-release}
 
@@ -47,33 +46,30 @@ fields c = record (the_view c.self.inside) {
 released : (c : After-release) → fields c ≡ release (left c)
 released c =
     let k = c.self.inside in
-    let given : state_by k.tables k.processes k.statuses c.on_end.new.objects.kinds c.on_end.new.channels k.tree
-    ≡ state_by k.tables k.processes k.statuses k.objects.kinds (channels_after (us c) k.channels) k.tree =
-    λ i. state_by k.tables k.processes k.statuses (c.on_end.ensures.kinds i) (c.in_ok-answer.ensures.ok.1 i) k.tree in
-    ap (λ (S : State). record S { clock = k.clock; terms = k.terms }) (c.release.ensures.state ∙ ap release given)
-    ∙ sym (release_besides (state_by k.tables k.processes k.statuses k.objects.kinds (channels_after (us c) k.channels) k.tree) k.clock k.terms)
-
-after : (c : After-release) → fields c ≡ release (put_all (us c) (the_view c.self.inside))
-after c = released c ∙ sym (ap release (put c))
-
--- the tables are what the release leaves of those before it
-tables_are : (c : After-release) → c.release.new.tables ≡ (release (left c)).tables
-tables_are c = ap (λ (S : State). S.tables) (released c)
+    released_to (left c) _ _
+    (λ i. state_by k.tables k.processes k.statuses (c.on_end.ensures.kinds i) (c.in_ok-answer.ensures.ok.1 i) k.tree) c.release.ensures.state
 
 pub invariant_of-self-2 : goal.invariant_of-self-2
-invariant_of-self-2 c =
-    let there = subst (λ (S : State). (o : ℕ) × (get S.opens o ≡ Some c.args.kind.now)) (sym c.self.view_is) c.requires.there in
-    record {
-      valid = subst IsValid (sym (after c)) (release_restores _
-          (end_nearly (the_view c.self.inside) there.0 c.args.kind.now (call_of_offset c.args.call) there.1 c.self.invariant.valid.nearly));
-      counted = c.release.ensures.counted;
-      few = c.release.ensures.few (c.on_end.ensures.few c.self.invariant.few);
-      small = subst AreSmall (sym (tables_are c)) (small_released (left c) c.self.invariant.small);
-      processes = subst (KeysBelow (2 ^ 32)) (sym (tables_are c)) (below_released (left c) (2 ^ 32) c.self.invariant.processes);
-    }
+invariant_of-self-2 d =
+    let c = (goal.at.invariant_of-self-2 d).After-release in
+    let there = subst (λ (S : State). (o : ℕ) × (get S.opens o ≡ Some d.args.kind.now)) (sym d.self.view_is) d.requires.there in
+    kept_released (left c) (fields c) d.release.new.objects.counts (released c)
+    (subst IsNearlyValid (put c) (end_nearly (the_view d.self.inside) there.0 d.args.kind.now (call_of_offset d.args.call) there.1 d.self.invariant.valid.nearly))
+    d.release.ensures.counted (d.release.ensures.few (d.on_end.ensures.few d.self.invariant.few)) d.self.invariant.small d.self.invariant.processes
 
-pub returns-clause-ok : goal.returns-clause-ok
-returns-clause-ok c =
-    subst (λ (X : State). (c.in_ok-answer.answer ≡ (end_outcome X.chans c.args.kind.now (call_of_offset c.args.call)).answer)
-    × (fields c ≡ release (put_all (end_outcome X.chans c.args.kind.now (call_of_offset c.args.call)).updates X))) c.self.view_is
-    (c.in_ok-answer.ensures.ok.0, after c)
+pub returns : goal.returns
+returns d =
+    let c = (goal.at.returns d).After-release in
+    let called = call_of_offset d.args.call in
+    done_seen (the_view d.self.inside) d.args.self.now d.self.view_is (takes_memory called) (λ X. end_outcome X.chans d.args.kind.now called) (fields c)
+    (Ok d.in_ok-answer.answer) (d.in_ok-answer.ensures.ok.0, released c ∙ sym (ap release (put c)))
+
+pub returns-in_err-answer : goal.returns-in_err-answer
+returns-in_err-answer d =
+    let k = d.self.inside in
+    let called = call_of_offset d.args.call in
+    let U = record (the_view k) { opens = d.on_end.new.objects.kinds; chans = d.on_end.new.channels } in
+    done_seen (the_view k) d.args.self.now d.self.view_is (takes_memory called) (λ X. end_outcome X.chans d.args.kind.now called) U d.from_residual.result
+    (lacked (takes_memory called) (end_outcome k.channels d.args.kind.now called) (the_view k) U d.from_residual.result d.from_residual.ensures.0
+    d.in_err-answer.ensures.takes d.in_err-answer.ensures.only
+    (λ i. record (the_view k) { opens = d.on_end.ensures.kinds i; chans = d.in_err-answer.ensures.same_channels i }))

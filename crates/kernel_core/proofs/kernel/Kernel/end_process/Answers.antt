@@ -8,15 +8,15 @@ use Rattle.channel_calls.specs.Calls.{AllGoOn, AreFew, Channels}
 use Rattle.tree_model.specs.Opens.{is_used}
 use Rattle.kernel_model.specs.Release.{release}
 use Rattle.kernel_model.specs.State.{State, Table, put_all}
-use Rattle.kernel_model.specs.Valid.{IsNearlyValid, IsValid}
+use Rattle.kernel_model.specs.Valid.{IsNearlyValid}
 use Rattle.kernel_model.proofs.EndedValid.{end_nearly_valid}
-use Rattle.kernel_model.proofs.Valids.{release_restores, same_keys_inserted}
+use Rattle.kernel_model.proofs.Valids.{same_keys_inserted}
 use Rattle.kernel_parts.specs.Released.{state_by}
-use Rattle.kernel_parts.proofs.Releases.{release_besides}
 use Rattle.kernel_core.specs.contracts.kernel.Kernel.{the_view}
-use Rattle.fd_table.specs.Sizes.{KeysBelow, below-insert_again}
+use Rattle.kernel_core.proofs.Released.{kept_released, released_to}
+use Rattle.fd_table.specs.Sizes.{below-insert_again}
 use Rattle.kernel_core.proofs.Channels.{AreCounted, covered_alone, emptied_counts}
-use Rattle.kernel_core.proofs.Kept.{AreSmall, below_released, small_empty, small_released, small_set}
+use Rattle.kernel_core.proofs.Kept.{small_empty, small_set}
 use Rattle.kernel_core.proofs.kernel.Kernel.end_process.Goals as goal
 use Rattle.kernel_core.proofs.kernel.Kernel.end_process.Goals.{After-release}
 
@@ -61,19 +61,11 @@ after c =
     ap (insert k.processes c.from-p.result) (c.end.ensures ∙ ap ended_process there) ∙ ap (λ (p : ℕ). insert k.processes p (ended_process (get k.processes c.args.pid))) same in
     let statuses : c.replace.new.self ≡ insert k.statuses c.args.pid c.args.status =
     c.replace.ensures.new ∙ ap (λ (p : ℕ). insert k.statuses p c.args.status) same in
-    let given : state_by (insert k.tables c.from-p.result c.let_go_all.new.table) (insert k.processes c.from-p.result c.end.new.self) c.replace.new.self
-    c.let_go_all.new.objects.kinds c.wake_at_end.new.channels k.tree
-    ≡ state_by (unreleased c).tables (unreleased c).processes (unreleased c).statuses (unreleased c).opens k.channels k.tree =
-    λ i. state_by (emptied c i) (own i) (statuses i) (c.let_go_all.ensures.kinds i) (c.wake_at_end.ensures i) k.tree in
-    ap (λ (S : State). record S { clock = k.clock; terms = k.terms }) (c.release.ensures.state ∙ ap release given)
-    ∙ sym (release_besides (state_by (unreleased c).tables (unreleased c).processes (unreleased c).statuses (unreleased c).opens k.channels k.tree) k.clock k.terms)
+    released_to (unreleased c) _ _
+    (λ i. state_by (emptied c i) (own i) (statuses i) (c.let_go_all.ensures.kinds i) (c.wake_at_end.ensures i) k.tree) c.release.ensures.state
 
 k_has : (c : After-release) → IsSome (get c.self.inside.tables c.args.pid)
 k_has c = ap (λ p. is_some (get c.self.inside.tables p)) (sym (c.from-p.ensures ∙ c.pid.view_is)) ∙ ap is_some (sym c.get_mut.ensures.value)
-
--- the tables are what the release leaves of those before it
-tables_are : (c : After-release) → c.release.new.tables ≡ (release (unreleased c)).tables
-tables_are c = ap (λ (S : State). S.tables) (after c)
 
 pub release-requires-clause-counted : goal.release-requires-clause-counted
 release-requires-clause-counted c =
@@ -109,15 +101,10 @@ pub invariant_of-self : goal.invariant_of-self
 invariant_of-self c =
     let a = (goal.at.invariant_of-self c).After-release in
     let k = a.self.inside in
-    let there : IsSome (get k.tables a.args.pid) = k_has a in
-    record {
-      valid = subst IsValid (sym (after a)) (release_restores _ (nearly a));
-      counted = a.release.ensures.counted;
-      few = a.release.ensures.few (subst AreFew (sym a.wake_at_end.ensures) a.self.invariant.few);
-      small = subst AreSmall (sym (tables_are a)) (small_released (unreleased a) (small_set k.tables a.args.pid empty a.self.invariant.small small_empty));
-      processes = subst (KeysBelow (2 ^ 32)) (sym (tables_are a))
-          (below_released (unreleased a) (2 ^ 32) (below-insert_again (2 ^ 32) k.tables a.args.pid empty a.self.invariant.processes there));
-    }
+    kept_released (unreleased a) (fields a) a.release.new.objects.counts (after a) (nearly a) a.release.ensures.counted
+    (a.release.ensures.few (subst AreFew (sym a.wake_at_end.ensures) a.self.invariant.few))
+    (small_set k.tables a.args.pid empty a.self.invariant.small small_empty)
+    (below-insert_again (2 ^ 32) k.tables a.args.pid empty a.self.invariant.processes (k_has a))
 
 pub returns : goal.returns
 returns c = rw (← c.self.view_is) (after (goal.at.returns c).After-release)

@@ -1,24 +1,26 @@
-use Rattle.std.proofs.Common.{◌≡◌, ℕ, ◌+◌, Some, option_copied, sym, ap, subst, ◌∙◌, arith}
+use Rattle.std.proofs.Common.{◌≡◌, ℕ, ◌+◌, Some, Ok, option_copied, sym, ap, subst, ◌∙◌, arith}
 use Rattle.std.specs.FinMap.{get, insert}
 use Rattle.maps.specs.Maps.{insert_self}
 use Rattle.tree_model.specs.Opens.{is_used}
 use Rattle.tree_model.specs.Retained.{retained}
 use Rattle.abi_types.specs.Families.{call_of_entry}
+use Rattle.abi_types.specs.declared.reply.Answer.TheVariants as answer
+use Rattle.kernel_model.specs.Calls.{takes_memory}
 use Rattle.kernel_model.specs.Families.EntryCalls.{name_meaning}
 use Rattle.kernel_model.specs.Families.NameMeaning.{NameOutcome, outcome_of}
 use Rattle.kernel_model.specs.Families.Numbers.{next_object}
-use Rattle.kernel_model.specs.Outcome.{Outcome, IsSuccess}
+use Rattle.kernel_model.specs.Outcome.{Outcome}
 use Rattle.kernel_model.specs.Release.{release}
 use Rattle.kernel_model.specs.State.{State, Table, Tree, put_all, tree_of}
 use Rattle.kernel_model.specs.Valid.{IsValid}
-use Rattle.kernel_model.proofs.Valids.{release_restores, same_value}
+use Rattle.kernel_model.proofs.Valids.{release_restores}
 use Rattle.kernel_core.specs.Kernel.{IsKept}
 use Rattle.kernel_core.specs.Entries.{entry_outcome, entries_come}
 use Rattle.kernel_parts.specs.Entries.{IsLeftBy, kind_with, open_at, open_in}
 use Rattle.kernel_core.specs.contracts.kernel.Kernel.{the_view}
-use Rattle.kernel_core.proofs.EntryCalls.{entries_after, entries_answer, entries_tree, entries_valid, open_there}
+use Rattle.kernel_core.proofs.Done.{done_as, done_at, lacked}
+use Rattle.kernel_core.proofs.EntryCalls.{entries_after, entries_answer, entries_take_memory, entries_tree, entries_valid, open_there}
 use Rattle.kernel_parts.proofs.Forgetting.{used_still}
-use Rattle.kernel_parts.proofs.Tests.{on_err}
 use Rattle.kernel_core.proofs.Opens.{IsFound, open_absent, open_found}
 use Rattle.kernel_core.proofs.kernel.Kernel.entry_call.Goals as goal
 use Rattle.kernel_core.proofs.kernel.Kernel.entry_call.Goals.{In_err-done, In_ok-done}
@@ -33,12 +35,9 @@ table_of c = (found c).table
 there : (c : In_ok-done) → get c.self.inside.tables c.args.pid ≡ Some (table_of c)
 there c = (found c).there
 
-had : (c : In_ok-done) → get c.args.self.now.tables c.args.pid ≡ Some (table_of c)
-had c = ap (λ (S : State). get S.tables c.args.pid) (sym c.self.view_is) ∙ there c
-
 -- the first descriptor is there, and so is its open
-pub returns-in_default-clause-ok : goal.returns-in_default-clause-ok
-returns-in_default-clause-ok d = λ table here.
+pub returns-in_default : goal.returns-in_default
+returns-in_default d = λ table here.
     let S = the_view d.self.inside in
     let has = ap (λ (T : State). get T.tables d.args.pid) d.self.view_is ∙ here in
     absurd (open_there S d.args.pid d.args.fd table has d.self.invariant.valid.nearly (d.requires.named table here)
@@ -69,30 +68,30 @@ invariant_of-self d =
     let c = (goal.at.invariant_of-self d).In_err-done in
     subst (λ (S : State). IsKept S d.self.inside.objects.counts) (sym (as_before c)) d.self.invariant
 
-pub returns-in_err-done-clause-err : goal.returns-in_err-done-clause-err
-returns-in_err-done-clause-err d =
-    on_err d.from_residual.result (as_before (goal.at.returns-in_err-done-clause-err d).In_err-done ∙ d.self.view_is)
-
 -- and the call would succeed
-pub returns-in_err-done-clause-only : goal.returns-in_err-done-clause-only
-returns-in_err-done-clause-only d = on_err d.from_residual.result (λ table here.
+pub returns-in_err-done : goal.returns-in_err-done
+returns-in_err-done d = λ table here.
+    let c = (goal.at.returns-in_err-done d).In_err-done in
     let constants = d.args.constants.now in
     let S = the_view d.self.inside in
     let p = d.args.pid in
     let called = call_of_entry d.args.call in
+    let takes = takes_memory called in
+    let r = d.from_residual.result in
     let f : IsFound S.opens (get S.tables p) d.args.fd d.in-Some.field-0-0 d.in-Some.here = open_found _ _ _ _ _ (sym d.open_of.ensures ∙ d.in-Some.is) in
     let own : get S.processes p ≡ Some d.get_mut-own.result.now = ap (get S.processes) (sym (d.from.ensures ∙ d.pid.view_is)) ∙ sym d.get_mut-own.ensures.value in
     let first : Some d.in-Some.here ≡ open_in S.opens (get f.table d.args.fd) = sym (ap (open_in S.opens) f.named ∙ f.opened) in
     let other : option_copied d.as_ref.result ≡ open_at S.opens f.table d.args.other =
     d.as_ref.ensures.value ∙ d.kind_of-there.ensures ∙ ap (λ t. kind_with S.opens t d.args.other) f.there in
-    let same : _ ≡ entry_outcome constants S p f.table d.args.fd d.args.other called =
+    let o : Outcome =
+    outcome_of p (Some d.get_mut-own.result.now) (name_meaning called).new_nodes ((name_meaning called).effect (S.clock + constants.epoch)
+    (next_object p (Some d.get_mut-own.result.now) 1) (tree_of S) (Some d.in-Some.here) (option_copied d.as_ref.result)) in
+    let same : o ≡ entry_outcome constants S p f.table d.args.fd d.args.other called =
     λ i. outcome_of p (sym own i) (name_meaning called).new_nodes
     ((name_meaning called).effect (S.clock + constants.epoch) (next_object p (sym own i) 1) (tree_of S) (first i) (other i)) in
-    let at : f.table ≡ table = same_value _ _ _ f.there (ap (λ (T : State). get T.tables p) d.self.view_is ∙ here) in
-    subst (λ (o : Outcome). IsSuccess o.answer)
-    (same ∙ ap (λ (t : Table). entry_outcome constants S p t d.args.fd d.args.other called) at
-    ∙ ap (λ (T : State). entry_outcome constants T p table d.args.fd d.args.other called) d.self.view_is)
-    d.in_err-done.ensures.only)
+    done_at S d.args.self.now d.self.view_is takes (λ X t. entry_outcome constants X p t d.args.fd d.args.other called) p f.table table (unchanged c) r f.there here
+    (done_as takes o (entry_outcome constants S p f.table d.args.fd d.args.other called) S (unchanged c) r same
+    (lacked takes o S (unchanged c) r d.from_residual.ensures.0 (entries_take_memory called (d.args.fd, d.args.other) d.requires.on) d.in_err-done.ensures.only (as_before c)))
 
 -- ---- the call is done
 
@@ -154,18 +153,16 @@ invariant_of-self-2 d =
       processes = d.self.invariant.processes;
     }
 
-pub returns-clause-ok : goal.returns-clause-ok
-returns-clause-ok d = λ table here.
-    let c = (goal.at.returns-clause-ok d).In_ok-done in
+pub returns : goal.returns
+returns d = λ table here.
+    let c = (goal.at.returns d).In_ok-done in
+    let constants = d.args.constants.now in
     let S = the_view d.self.inside in
-    let same : (table_of (goal.at.returns-clause-ok d).In_ok-done) ≡ table = same_value _ _ _ (had (goal.at.returns-clause-ok d).In_ok-done) here in
-    let outcome : entry_outcome d.args.constants.now S d.args.pid (table_of (goal.at.returns-clause-ok d).In_ok-done) d.args.fd d.args.other (call_of_entry d.args.call)
-    ≡ entry_outcome d.args.constants.now d.args.self.now d.args.pid table d.args.fd d.args.other (call_of_entry d.args.call) =
-    ap (λ (t : Table). entry_outcome d.args.constants.now S d.args.pid t d.args.fd d.args.other (call_of_entry d.args.call)) same
-    ∙ ap (λ (T : State). entry_outcome d.args.constants.now T d.args.pid table d.args.fd d.args.other (call_of_entry d.args.call)) d.self.view_is in (
-      entries_answer d.args.constants.now S d.args.pid (table_of (goal.at.returns-clause-ok d).In_ok-done) d.args.fd d.args.other (call_of_entry d.args.call) d.requires.on d.get_mut-own.result.now d.change_entries.new.own
-          (owned c) d.self.invariant.valid d.change_entries.new.tree d.in_ok-done.done.reply (done c)
-          ∙ ap (λ (o : Outcome). o.answer) outcome,
-      after c d.forget_nameless.new.tree d.forget_nameless.ensures ∙ ap (λ (o : Outcome). release (put_all o.updates S)) outcome
-          ∙ ap (λ (T : State). release (put_all (entry_outcome d.args.constants.now d.args.self.now d.args.pid table d.args.fd d.args.other (call_of_entry d.args.call)).updates T)) d.self.view_is,
+    let called = call_of_entry d.args.call in
+    let t = d.forget_nameless.new.tree in
+    done_at S d.args.self.now d.self.view_is (takes_memory called) (λ X t. entry_outcome constants X d.args.pid t d.args.fd d.args.other called) d.args.pid (table_of c)
+    table (fields c t) (Ok (answer.Reply d.in_ok-done.done.reply)) (there c) here (
+      entries_answer constants S d.args.pid (table_of c) d.args.fd d.args.other called d.requires.on d.get_mut-own.result.now d.change_entries.new.own (owned c)
+          d.self.invariant.valid d.change_entries.new.tree d.in_ok-done.done.reply (done c),
+      after c t d.forget_nameless.ensures,
     )

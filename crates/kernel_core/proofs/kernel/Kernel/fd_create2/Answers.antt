@@ -1,4 +1,4 @@
-use Rattle.std.proofs.Common.{◌≡◌, ℕ, ◌+◌, ◌^◌, true, Option, Some, is_some, refl, sym, ap, subst, ◌∙◌, arith}
+use Rattle.std.proofs.Common.{◌≡◌, ℕ, ◌+◌, ◌^◌, true, Option, Some, Ok, is_some, refl, sym, ap, subst, ◌∙◌, arith}
 use Rattle.std.specs.Ordering.{nat_cmp}
 use Rattle.std.specs.FinMap.{FinMap, get, insert}
 use Rattle.abi_types.specs.declared.open_kind.OpenKind.{OpenKind}
@@ -12,45 +12,43 @@ use Rattle.maps.specs.Maps.{insert_self}
 use Rattle.tree_model.specs.Opens.{is_used}
 use Rattle.kernel_model.specs.Families.Numbers.{can_number, made_more, object_of, next_object}
 use Rattle.kernel_model.specs.Families.SocketCalls as model
-use Rattle.kernel_model.specs.Outcome.{IsSuccess, Outcome}
+use Rattle.kernel_model.specs.Outcome.{IsSuccess, Outcome, replies}
 use Rattle.kernel_model.specs.Release.{release}
 use Rattle.kernel_model.specs.Reply.{success}
 use Rattle.kernel_model.specs.State.{ProcessState, State, Table, counts_in, put_all}
-use Rattle.kernel_model.specs.Valid.{IsValid}
-use Rattle.kernel_model.proofs.Valids.{release_restores, release_valid, same_value, some_again}
+use Rattle.kernel_model.specs.Valid.{IsNearlyValid, IsValid}
+use Rattle.kernel_model.proofs.Valids.{some_again}
 use Rattle.kernel_parts.specs.Released.{state_by}
-use Rattle.kernel_parts.proofs.Releases.{release_besides}
-use Rattle.kernel_parts.proofs.Tests.{on_err}
 use Rattle.kernel_core.specs.Ends.{IsPair}
 use Rattle.kernel_core.specs.contracts.kernel.Kernel.{the_view}
+use Rattle.kernel_core.proofs.Released.{kept_released, released_to}
 use Rattle.kernel_core.proofs.Channels.{AreCounted, moved_counts}
+use Rattle.kernel_core.proofs.Done.{done_at, lacked, replied}
 use Rattle.kernel_core.proofs.EndCalls.{create_is, create_nearly, numbers_can, pair_fits, pair_free, pair_going, pair_new, pair_put, pair_small, pair_table, pair_used, with_pair}
-use Rattle.kernel_core.proofs.Kept.{AreSmall, below_released, small_released, small_set}
+use Rattle.kernel_core.proofs.Kept.{AreSmall, small_set}
 use Rattle.kernel_core.proofs.OpenCalls.{planned_before}
 use Rattle.kernel_core.proofs.kernel.Kernel.fd_create2.Goals as goal
 use Rattle.kernel_core.proofs.kernel.Kernel.fd_create2.Goals.{After-get_mut-table, After-put_pair, After-release}
 
+-- what the call comes to
+abbrev Comes : ℕ → Who → State → Table → Outcome
+Comes kind who S table = model.create (model.made_of kind) who.pid who.tid (get S.processes who.pid) table
+
 -- ---- nothing is made
 
-pub returns-in_default-clause-ok : goal.returns-in_default-clause-ok
-returns-in_default-clause-ok c = λ table here.
-    let S = c.args.self.now in
-    let none : model.create (model.made_of c.args.kind) c.args.who.now.pid c.args.who.now.tid (get S.processes c.args.who.now.pid) table
-    ≡ model.create Option.None c.args.who.now.pid c.args.who.now.tid (get S.processes c.args.who.now.pid) table =
-    ap (λ m. model.create m c.args.who.now.pid c.args.who.now.tid (get S.processes c.args.who.now.pid) table) (sym c.in_default.ensures) in (
-      ap answer.Reply c.refused.ensures ∙ sym (ap (λ (o : Outcome). o.answer) none),
-      sym (ap (λ (o : Outcome). release (put_all o.updates S)) none ∙ release_valid S c.requires.valid),
-    )
-
-pub returns-in-Err-clause-ok : goal.returns-in-Err-clause-ok
-returns-in-Err-clause-ok c = λ table here.
+pub returns-in_default : goal.returns-in_default
+returns-in_default c = λ table here.
     let S = c.args.self.now in
     let who = c.args.who.now in
-    let outcome : model.create (model.made_of c.args.kind) who.pid who.tid (get S.processes who.pid) table ≡ _ =
-    ap (λ m. model.create m who.pid who.tid (get S.processes who.pid) table) (sym c.in-Some.ensures) ∙ c.in-Err.ensures.refused table here in (
-      sym (ap (λ (o : Outcome). o.answer) outcome),
-      sym (ap (λ (o : Outcome). release (put_all o.updates S)) outcome ∙ release_valid S (subst IsValid c.self.view_is c.self.invariant.valid)),
-    )
+    replied (Comes c.args.kind who S table) S c.refused.result c.requires.valid
+    (ap (λ m. model.create m who.pid who.tid (get S.processes who.pid) table) (sym c.in_default.ensures) ∙ ap replies (sym c.refused.ensures))
+
+pub returns-in-Err : goal.returns-in-Err
+returns-in-Err c = λ table here.
+    let S = c.args.self.now in
+    let who = c.args.who.now in
+    replied (Comes c.args.kind who S table) S c.in-Err.reply c.requires.valid
+    (ap (λ m. model.create m who.pid who.tid (get S.processes who.pid) table) (sym c.in-Some.ensures) ∙ c.in-Err.ensures.refused table here)
 
 -- ---- what is made was planned for this state
 
@@ -157,33 +155,26 @@ outcome_is c =
     ∙ create_is who.pid who.tid (get S.processes who.pid) c.get_mut-table.result.now (model_of c.in-Ok.pair.kind) c.in-Ok.pair.one c.in-Ok.pair.two plan.one plan.two
     (ap (λ k. model.can_create who.pid who.tid (model.count_of (model_of k)) (get S.processes who.pid)) plan.kind_is ∙ plan.can)
 
--- by the state as it is seen
-abbrev Comes : ℕ → Who → State → Table → Outcome
-Comes kind who S table = model.create (model.made_of kind) who.pid who.tid (get S.processes who.pid) table
-
-seen : (c : After-get_mut-table) (table : Table) → get c.args.self.now.tables c.args.who.now.pid ≡ Some table
-    → Comes c.args.kind c.args.who.now (the_view c.self.inside) c.get_mut-table.result.now ≡ Comes c.args.kind c.args.who.now c.args.self.now table
-seen c table here =
-    let had : get c.args.self.now.tables c.args.who.now.pid ≡ Some c.get_mut-table.result.now =
-    ap (λ (S : State). get S.tables c.args.who.now.pid) (sym c.self.view_is) ∙ there c in
-    ap (λ S. Comes c.args.kind c.args.who.now S c.get_mut-table.result.now) c.self.view_is
-    ∙ ap (Comes c.args.kind c.args.who.now c.args.self.now) (same_value _ _ _ had here)
-
-pub returns-in_err-put_pair-clause-only : goal.returns-in_err-put_pair-clause-only
-returns-in_err-put_pair-clause-only d = on_err d.from_residual.result (λ table here.
-    let c = (goal.at.returns-in_err-put_pair-clause-only d).After-get_mut-table in
-    subst (λ (o : Outcome). IsSuccess o.answer) (sym (outcome_is c) ∙ seen c table here) refl)
-
-pub returns-in_err-put_pair-clause-err : goal.returns-in_err-put_pair-clause-err
-returns-in_err-put_pair-clause-err d = on_err d.from_residual.result
-    (let k = d.self.inside in
+pub returns-in_err-put_pair : goal.returns-in_err-put_pair
+returns-in_err-put_pair d = λ table here.
+    let c = (goal.at.returns-in_err-put_pair d).After-get_mut-table in
+    let k = d.self.inside in
+    let U = record (the_view k) {
+      tables = insert k.tables d.from-p.result d.put_pair.new.table;
+      opens = d.put_pair.new.objects.kinds;
+      chans = d.put_pair.new.channels;
+    } in
     let tables : insert k.tables d.from-p.result d.put_pair.new.table ≡ k.tables =
     ap (insert k.tables d.from-p.result) d.in_err-put_pair.ensures.same_table ∙ insert_self k.tables d.from-p.result d.get_mut-table.result.now (sym d.get_mut-table.ensures.value) in
+    let found = d.get_mut-table.result.now in
+    done_at (the_view k) d.args.self.now d.self.view_is true (Comes d.args.kind d.args.who.now) d.args.who.now.pid found table U d.from_residual.result (there c) here
+    (lacked true (Comes d.args.kind d.args.who.now (the_view k) found) (the_view k) U d.from_residual.result d.from_residual.ensures.0 refl
+    (subst (λ (o : Outcome). IsSuccess o.answer) (sym (outcome_is c)) refl)
     (λ i. record (the_view k) {
       tables = tables i;
       opens = d.in_err-put_pair.ensures.same_kinds i;
       chans = d.in_err-put_pair.ensures.same_channels i;
-    }) ∙ d.self.view_is)
+    }))
 
 -- ---- a pair is made
 
@@ -256,12 +247,8 @@ released c g at kind =
     let own : insert k.processes c.from-p.result c.make.new.self ≡ insert k.processes p (made_more (model.count_of (model_of c.in-Ok.pair.kind)) c.get_mut.result.now) =
     ap (insert k.processes c.from-p.result) (c.make.ensures ∙ ap (λ n. made_more n c.get_mut.result.now) count)
     ∙ ap (λ (q : ℕ). insert k.processes q (made_more (model.count_of (model_of c.in-Ok.pair.kind)) c.get_mut.result.now)) at in
-    let given : state_by (insert k.tables c.from-p.result c.put_pair.new.table) (insert k.processes c.from-p.result c.make.new.self) k.statuses c.put_pair.new.objects.kinds
-    c.put_pair.new.channels k.tree
-    ≡ state_by (left c).tables (left c).processes k.statuses (left c).opens (left c).chans k.tree =
-    λ i. state_by (tables i) (own i) k.statuses (c.in_ok-put_pair.ensures.kinds i) (c.in_ok-put_pair.ensures.channels i) k.tree in
-    ap (λ (S : State). record S { clock = k.clock; terms = k.terms }) (c.release.ensures.state ∙ ap release given)
-    ∙ sym (release_besides (state_by (left c).tables (left c).processes k.statuses (left c).opens (left c).chans k.tree) k.clock k.terms)
+    released_to (left c) _ _
+    (λ i. state_by (tables i) (own i) k.statuses (c.in_ok-put_pair.ensures.kinds i) (c.in_ok-put_pair.ensures.channels i) k.tree) c.release.ensures.state
 
 put : (c : After-release) (g : After-get_mut-table) → c.from-p.result ≡ c.args.who.now.pid → c.in-Ok.pair.first ≡ next_object c.args.who.now.pid (get c.self.inside.processes c.args.who.now.pid) 1
     → left c ≡ put_all (model.create_updates (model_of c.in-Ok.pair.kind) c.args.who.now.pid (get c.self.inside.processes c.args.who.now.pid) c.get_mut-table.result.now c.in-Ok.pair.one c.in-Ok.pair.two) (the_view c.self.inside)
@@ -270,18 +257,6 @@ put c g at first =
     pair_put (the_view c.self.inside) c.args.who.now.pid c.get_mut.result.now c.get_mut-table.result.now c.in-Ok.pair.kind c.in-Ok.pair.first c.in-Ok.pair.one c.in-Ok.pair.two
     own (first ∙ ap (λ o. next_object c.args.who.now.pid o 1) own)
 
--- the state is the release of what the call comes to
-after : (c : After-release) (g : After-get_mut-table) → IsPair (the_view c.self.inside) c.args.who.now c.get_mut-table.result.now c.in-Some.kind c.in-Ok.pair
-    → c.from-p.result ≡ c.args.who.now.pid
-    → Comes c.args.kind c.args.who.now (the_view c.self.inside) c.get_mut-table.result.now
-    ≡ record {
-      answer = answer.Reply (success c.in-Ok.pair.one c.in-Ok.pair.two);
-      updates = model.create_updates (model_of c.in-Ok.pair.kind) c.args.who.now.pid (get c.self.inside.processes c.args.who.now.pid) c.get_mut-table.result.now c.in-Ok.pair.one c.in-Ok.pair.two;
-    }
-    → fields c ≡ release (put_all (Comes c.args.kind c.args.who.now (the_view c.self.inside) c.get_mut-table.result.now).updates (the_view c.self.inside))
-after c g plan at is =
-    released c g at plan.kind_is ∙ ap release (put c g at plan.first) ∙ sym (ap (λ (o : Outcome). release (put_all o.updates (the_view c.self.inside))) is)
-
 pub invariant_of-self-2 : goal.invariant_of-self-2
 invariant_of-self-2 d =
     let c = (goal.at.invariant_of-self-2 d).After-release in
@@ -289,27 +264,24 @@ invariant_of-self-2 d =
     let k = d.self.inside in
     let p = d.args.who.now.pid in
     let table = d.get_mut-table.result.now in
-    let rel = released c g (same g) (planned g).kind_is in
-    let tables = ap (λ (S : State). S.tables) rel in
-    record {
-      valid = subst IsValid (sym (after c g (planned g) (same g) (outcome_is g))) (release_restores _
-          (create_nearly (the_view k) d.args.who.now table d.args.kind (there g) d.self.invariant.valid.nearly));
-      counted = d.release.ensures.counted;
-      few = d.release.ensures.few (d.put_pair.ensures.few d.self.invariant.few);
-      small = subst AreSmall (sym tables) (small_released (left c) (small_set k.tables p (table_with d.in-Ok.pair table) d.self.invariant.small
-          (pair_table table d.in-Ok.pair.kind d.in-Ok.pair.first d.in-Ok.pair.one d.in-Ok.pair.two (free g) (d.self.invariant.small p table (there g)))));
-      processes = subst (KeysBelow (2 ^ 32)) (sym tables) (below_released (left c) (2 ^ 32)
-          (below-insert_again (2 ^ 32) k.tables p (table_with d.in-Ok.pair table) d.self.invariant.processes (ap is_some (there g))));
-    }
+    let plan = planned g in
+    kept_released (left c) (fields c) d.release.new.objects.counts (released c g (same g) plan.kind_is)
+    (subst IsNearlyValid (ap (λ (o : Outcome). put_all o.updates (the_view k)) (outcome_is g) ∙ sym (put c g (same g) plan.first))
+    (create_nearly (the_view k) d.args.who.now table d.args.kind (there g) d.self.invariant.valid.nearly))
+    d.release.ensures.counted (d.release.ensures.few (d.put_pair.ensures.few d.self.invariant.few))
+    (small_set k.tables p (table_with d.in-Ok.pair table) d.self.invariant.small
+    (pair_table table d.in-Ok.pair.kind d.in-Ok.pair.first d.in-Ok.pair.one d.in-Ok.pair.two (free g) (d.self.invariant.small p table (there g))))
+    (below-insert_again (2 ^ 32) k.tables p (table_with d.in-Ok.pair table) d.self.invariant.processes (ap is_some (there g)))
 
-pub returns-clause-ok : goal.returns-clause-ok
-returns-clause-ok d = λ table here.
-    let c = (goal.at.returns-clause-ok d).After-release in
-    let g = (goal.at.returns-clause-ok d).After-get_mut-table in
-    let is = seen g table here in
+pub returns : goal.returns
+returns d = λ table here.
+    let c = (goal.at.returns d).After-release in
+    let g = (goal.at.returns d).After-get_mut-table in
     let one = d.from.ensures in
-    let two = d.from-2.ensures in (
-      ap answer.Reply (d.success-reply.ensures ∙ (λ i. success (one i) (two i))) ∙ ap (λ (o : Outcome). o.answer) (sym (outcome_is g) ∙ is),
-      after c g (planned g) (same g) (outcome_is g) ∙ ap (λ (o : Outcome). release (put_all o.updates (the_view d.self.inside))) is
-          ∙ ap (λ S. release (put_all (Comes d.args.kind d.args.who.now d.args.self.now table).updates S)) d.self.view_is,
+    let two = d.from-2.ensures in
+    done_at (the_view d.self.inside) d.args.self.now d.self.view_is true (Comes d.args.kind d.args.who.now) d.args.who.now.pid d.get_mut-table.result.now table (fields c)
+    (Ok (answer.Reply d.success-reply.result)) (there g) here (
+      ap answer.Reply (d.success-reply.ensures ∙ (λ i. success (one i) (two i))) ∙ ap (λ (o : Outcome). o.answer) (sym (outcome_is g)),
+      released c g (same g) (planned g).kind_is
+          ∙ ap release (put c g (same g) (planned g).first ∙ sym (ap (λ (o : Outcome). put_all o.updates (the_view d.self.inside)) (outcome_is g))),
     )

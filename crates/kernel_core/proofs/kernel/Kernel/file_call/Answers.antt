@@ -1,16 +1,15 @@
-use Rattle.std.proofs.Common.{◌≡◌, ◌+◌, Option, Some, refl, sym, subst, ◌∙◌}
+use Rattle.std.proofs.Common.{◌+◌, Some, Ok, ap, sym, ◌∙◌}
 use Rattle.std.specs.FinMap.{get}
 use Rattle.abi_types.specs.Families.{call_of_file}
-use Rattle.abi_types.specs.declared.open_kind.OpenKind.{OpenKind}
 use Rattle.abi_types.specs.declared.reply.Answer.TheVariants as answer
+use Rattle.kernel_model.specs.Calls.{takes_memory}
 use Rattle.kernel_model.specs.Families.FileCalls.{file_meaning}
-use Rattle.kernel_model.specs.Outcome.{IsSuccess}
+use Rattle.kernel_model.specs.Outcome.{replies}
 use Rattle.kernel_model.specs.State.{State, tree_of}
-use Rattle.kernel_parts.proofs.Tests.{on_err}
 use Rattle.kernel_core.specs.Files.{file_outcome}
 use Rattle.kernel_core.specs.contracts.kernel.Kernel.{the_view}
-use Rattle.kernel_core.proofs.EntryCalls.{opened_is}
-use Rattle.kernel_core.proofs.FileCalls.{IsFileStep, absent_answers, done_answers, done_valid, there_behind, with_tree}
+use Rattle.kernel_core.proofs.Done.{answered_as, done_as, done_at, lacked, replied_seen}
+use Rattle.kernel_core.proofs.FileCalls.{absent_comes, done_released, done_valid, file_comes, file_takes_memory, there_behind, with_tree}
 use Rattle.kernel_core.proofs.Opens.{IsFound, found_kind, open_absent, open_found}
 use Rattle.kernel_core.proofs.kernel.Kernel.file_call.Goals as goal
 use Rattle.kernel_core.proofs.kernel.Kernel.file_call.Goals.{In-Some}
@@ -19,14 +18,14 @@ use Rattle.kernel_core.proofs.kernel.Kernel.file_call.Goals.{In-Some}
 found : (c : In-Some) → IsFound c.self.inside.objects.kinds (get c.self.inside.tables c.args.pid) c.args.fd c.in-Some.field-0-0 c.in-Some.kind
 found c = open_found _ _ _ _ _ (sym c.open_of.ensures ∙ c.in-Some.is)
 
-pub returns-in_default-clause-ok : goal.returns-in_default-clause-ok
-returns-in_default-clause-ok d = λ table here.
-    let S = d.self.inside in
-    subst (λ (X : State). get X.tables d.args.pid ≡ Some table
-    → IsFileStep d.args.constants.now X table d.args.fd (call_of_file d.args.call) (answer.Reply d.refused.result) X) d.self.view_is
-    (λ there. absent_answers d.args.constants.now (the_view S) table d.args.fd (call_of_file d.args.call) d.refused.result d.requires.on d.self.invariant.valid
-    (opened_is (the_view S) (get table d.args.fd)
-    ∙ open_absent S.objects.kinds (get S.tables d.args.pid) table d.args.fd there (sym d.open_of.ensures ∙ d.in_default.is)) d.refused.ensures) here
+pub returns-in_default : goal.returns-in_default
+returns-in_default d = λ table here.
+    let S = the_view d.self.inside in
+    let called = call_of_file d.args.call in
+    let had = ap (λ (X : State). get X.tables d.args.pid) d.self.view_is ∙ here in
+    replied_seen S d.args.self.now d.self.view_is (λ X. file_outcome d.args.constants.now X table d.args.fd called) d.refused.result d.self.invariant.valid
+    (absent_comes d.args.constants.now S table d.args.fd called d.requires.on
+    (open_absent S.opens (get S.tables d.args.pid) table d.args.fd had (sym d.open_of.ensures ∙ d.in_default.is)) ∙ ap replies (sym d.refused.ensures))
 
 pub on_open-requires : goal.on_open-requires
 on_open-requires d =
@@ -46,25 +45,33 @@ invariant_of-self-2 d =
       processes = d.self.invariant.processes;
     }
 
-pub returns-clause-ok : goal.returns-clause-ok
-returns-clause-ok d = λ table here.
-    let c = (goal.at.returns-clause-ok d).In-Some in
-    let S = d.self.inside in
-    subst (λ (X : State). get X.tables d.args.pid ≡ Some table
-    → IsFileStep d.args.constants.now X table d.args.fd (call_of_file d.args.call) (answer.Reply d.in_ok-reply.reply) (with_tree (the_view S) d.on_open.new.tree))
-    d.self.view_is
-    (λ there. done_answers (call_of_file d.args.call) d.args.fd (d.self.inside.clock + d.args.constants.now.epoch) d.requires.on (the_view S)
-    d.in-Some.field-0-0.id d.in-Some.kind (found c).opened d.self.invariant.valid d.on_open.new.tree
-    d.in_ok-reply.ensures.ok.1 d.in_ok-reply.ensures.nodes d.args.constants.now table d.in_ok-reply.reply refl
-    (opened_is (the_view S) (get table d.args.fd) ∙ found_kind (the_view S) d.args.pid d.args.fd d.in-Some.field-0-0 d.in-Some.kind (found c) table there)
-    d.in_ok-reply.ensures.ok.0) here
-
-pub returns-in_err-reply-clause-only : goal.returns-in_err-reply-clause-only
-returns-in_err-reply-clause-only d = on_err d.from_residual.result (λ table here.
-    let c = (goal.at.returns-in_err-reply-clause-only d).In-Some in
+pub returns : goal.returns
+returns d = λ table here.
+    let f = found (goal.at.returns d).In-Some in
+    let constants = d.args.constants.now in
     let S = the_view d.self.inside in
     let called = call_of_file d.args.call in
-    subst (λ (X : State). get X.tables d.args.pid ≡ Some table → IsSuccess (file_outcome d.args.constants.now X table d.args.fd called).answer) d.self.view_is
-    (λ there. subst (λ (k : Option OpenKind). IsSuccess ((file_meaning called).effect (S.clock + d.args.constants.now.epoch) (tree_of S) k).answer)
-    (sym (opened_is S (get table d.args.fd) ∙ found_kind S d.args.pid d.args.fd d.in-Some.field-0-0 d.in-Some.kind (found c) table there))
-    d.in_err-reply.ensures.only) here)
+    let given = answer.Reply d.in_ok-reply.reply in
+    done_at S d.args.self.now d.self.view_is (takes_memory called) (λ X t. file_outcome constants X t d.args.fd called) d.args.pid f.table table
+    (with_tree S d.on_open.new.tree) (Ok given) f.there here
+    (answered_as _ (file_outcome constants S f.table d.args.fd called) S (with_tree S d.on_open.new.tree) given
+    (file_comes constants S f.table d.args.fd called d.in-Some.kind (found_kind S d.args.pid d.args.fd d.in-Some.field-0-0 d.in-Some.kind f f.table f.there)) (
+      d.in_ok-reply.ensures.ok.0,
+      done_released called d.args.fd (S.clock + constants.epoch) d.requires.on S d.in-Some.field-0-0.id d.in-Some.kind f.opened
+          d.self.invariant.valid d.on_open.new.tree d.in_ok-reply.ensures.ok.1 d.in_ok-reply.ensures.nodes,
+    ))
+
+pub returns-in_err-reply : goal.returns-in_err-reply
+returns-in_err-reply d = λ table here.
+    let f = found (goal.at.returns-in_err-reply d).In-Some in
+    let constants = d.args.constants.now in
+    let S = the_view d.self.inside in
+    let called = call_of_file d.args.call in
+    let r = d.from_residual.result in
+    let o = (file_meaning called).effect (S.clock + constants.epoch) (tree_of S) (Some d.in-Some.kind) in
+    let U = with_tree S d.on_open.new.tree in
+    done_at S d.args.self.now d.self.view_is (takes_memory called) (λ X t. file_outcome constants X t d.args.fd called) d.args.pid f.table table U r f.there here
+    (done_as (takes_memory called) o (file_outcome constants S f.table d.args.fd called) S U r
+    (file_comes constants S f.table d.args.fd called d.in-Some.kind (found_kind S d.args.pid d.args.fd d.in-Some.field-0-0 d.in-Some.kind f f.table f.there))
+    (lacked (takes_memory called) o S U r d.from_residual.ensures.0 (file_takes_memory called d.args.fd d.requires.on d.in_err-reply.ensures.takes)
+    d.in_err-reply.ensures.only (ap (with_tree S) d.in_err-reply.ensures.err)))

@@ -1,4 +1,4 @@
-use Rattle.std.proofs.Common.{◌≡◌, ℕ, ◌+◌, ◌^◌, Some, is_some, refl, sym, ap, subst, ◌∙◌, arith}
+use Rattle.std.proofs.Common.{◌≡◌, ℕ, ◌+◌, ◌^◌, true, Some, Ok, is_some, refl, sym, ap, subst, ◌∙◌, arith}
 use Rattle.std.specs.FinMap.{get, insert}
 use Rattle.abi_base.specs.declared.limits.TheConstants.{MOST_DESCRIPTORS}
 use Rattle.abi_types.specs.declared.reply.Answer.TheVariants as answer
@@ -13,26 +13,26 @@ use Rattle.kernel_model.specs.Release.{carriers, holders, release}
 use Rattle.kernel_model.specs.Reply.{success}
 use Rattle.kernel_model.specs.State.{State, Table, Tree, counts_in, put_all, tree_of}
 use Rattle.kernel_model.specs.Valid.{IsValid}
-use Rattle.kernel_model.proofs.Valids.{release_restores, release_valid, same_value}
+use Rattle.kernel_model.proofs.Valids.{release_restores}
 use Rattle.entry_calls.specs.Plans.{change_of, new_nodes_of}
 use Rattle.kernel_core.specs.Opening.{IsOpening, open_outcome}
 use Rattle.kernel_core.specs.contracts.kernel.Kernel.{the_view}
 use Rattle.kernel_core.proofs.Channels.{table_counts}
+use Rattle.kernel_core.proofs.Done.{done_at, lacked, replied}
 use Rattle.kernel_core.proofs.Kept.{AreSmall, small_set}
 use Rattle.kernel_core.proofs.OpenCalls.{none_holds_it, node_is_new, open_answer, open_fits, open_is_new, open_keeps, open_released, open_valid, planned_before}
-use Rattle.kernel_parts.proofs.Tests.{on_err}
 use Rattle.kernel_core.proofs.kernel.Kernel.file_open.Goals as goal
 use Rattle.kernel_core.proofs.kernel.Kernel.file_open.Goals.{After-get_mut-table, In_err-put_opening, After-success}
 
 -- ---- nothing is opened
 
-pub returns-in-Err-clause-ok : goal.returns-in-Err-clause-ok
-returns-in-Err-clause-ok c = λ table here.
+pub returns-in-Err : goal.returns-in-Err
+returns-in-Err c = λ table here.
     let S = c.args.self.now in
-    let outcome = c.in-Err.ensures.refused table here (S.clock + c.args.constants.now.epoch) in (
-      sym (ap (λ (o : Outcome). o.answer) outcome),
-      sym (ap (λ (o : Outcome). release (put_all o.updates S)) outcome ∙ release_valid S (subst IsValid c.self.view_is c.self.invariant.valid)),
-    )
+    let call = c.args.call.now in
+    let now : ℕ = S.clock + c.args.constants.now.epoch in
+    replied (open_outcome now S c.args.pid table call.lookup call.path.now call.oflags call.stat) S c.in-Err.reply (subst IsValid c.self.view_is c.self.invariant.valid)
+    (c.in-Err.ensures.refused table here now)
 
 -- ---- what is opened was planned for this state
 
@@ -100,16 +100,16 @@ invariant_of-self d =
     }
 
 -- what was planned succeeds
-pub returns-in_err-put_opening-clause-only : goal.returns-in_err-put_opening-clause-only
-returns-in_err-put_opening-clause-only d = on_err d.from_residual.result (λ table here.
+pub returns-in_err-put_opening : goal.returns-in_err-put_opening
+returns-in_err-put_opening d = λ table here.
+    let c = (goal.at.returns-in_err-put_opening d).In_err-put_opening in
     let S = d.args.self.now in
     let call = d.args.call.now in
-    subst IsSuccess (sym (open_answer S d.args.pid table call.lookup call.path.now call.oflags call.stat d.in-Ok.opening (d.in-Ok.ensures.ok table here)
-    (subst IsValid d.self.view_is d.self.invariant.valid) (S.clock + d.args.constants.now.epoch))) refl)
-
-pub returns-in_err-put_opening-clause-err : goal.returns-in_err-put_opening-clause-err
-returns-in_err-put_opening-clause-err d =
-    on_err d.from_residual.result (as_before (goal.at.returns-in_err-put_opening-clause-err d).In_err-put_opening ∙ d.self.view_is)
+    let now : ℕ = S.clock + d.args.constants.now.epoch in
+    lacked true (open_outcome now S d.args.pid table call.lookup call.path.now call.oflags call.stat) S (unchanged c) d.from_residual.result d.from_residual.ensures.0 refl
+    (subst IsSuccess (sym (open_answer S d.args.pid table call.lookup call.path.now call.oflags call.stat d.in-Ok.opening (d.in-Ok.ensures.ok table here)
+    (subst IsValid d.self.view_is d.self.invariant.valid) now)) refl)
+    (as_before c ∙ d.self.view_is)
 
 -- ---- something is opened
 
@@ -194,22 +194,19 @@ invariant_of-self-2 d =
           (ap is_some (sym d.get_mut-table.ensures.value));
     }
 
-pub returns-clause-ok : goal.returns-clause-ok
-returns-clause-ok d = λ table here.
-    let c = (goal.at.returns-clause-ok d).After-success in
-    let plan = planned (goal.at.returns-clause-ok d).After-get_mut-table in
+pub returns : goal.returns
+returns d = λ table here.
+    let c = (goal.at.returns d).After-success in
+    let plan = planned (goal.at.returns d).After-get_mut-table in
     let S = the_view d.self.inside in
-    let T = d.args.self.now in
-    let now : ℕ = d.self.inside.clock + d.args.constants.now.epoch in
-    let at : State → Table → Outcome = λ X t.
-    open_outcome (X.clock + d.args.constants.now.epoch) X d.args.pid t d.args.call.now.lookup d.args.call.now.path.now d.args.call.now.oflags d.args.call.now.stat in
-    let had : get T.tables d.args.pid ≡ Some d.get_mut-table.result.now = ap (λ (X : State). get X.tables d.args.pid) (sym d.self.view_is) ∙ there c in
-    let same : at S d.get_mut-table.result.now ≡ at T table =
-    ap (λ X. at X d.get_mut-table.result.now) d.self.view_is ∙ ap (at T) (same_value _ _ _ had here) in
-    let number : success d.from.result 0 ≡ success d.in-Ok.opening.fd 0 = ap (λ n. success n 0) d.from.ensures in (
+    let p = d.args.pid in
+    let found = d.get_mut-table.result.now in
+    let call = d.args.call.now in
+    let epoch = d.args.constants.now.epoch in
+    let number : success d.from.result 0 ≡ success d.in-Ok.opening.fd 0 = ap (λ n. success n 0) d.from.ensures in
+    done_at S d.args.self.now d.self.view_is true (λ X t. open_outcome (X.clock + epoch) X p t call.lookup call.path.now call.oflags call.stat) p found table
+    (fields c) (Ok (answer.Reply d.success.result)) (there c) here (
       ap answer.Reply (d.success.ensures ∙ number)
-          ∙ sym (open_answer S d.args.pid d.get_mut-table.result.now d.args.call.now.lookup d.args.call.now.path.now d.args.call.now.oflags d.args.call.now.stat d.in-Ok.opening plan
-          d.self.invariant.valid now)
-          ∙ ap (λ (o : Outcome). o.answer) same,
-      after c plan ∙ ap (λ (o : Outcome). release (put_all o.updates S)) same ∙ ap (λ X. release (put_all (at T table).updates X)) d.self.view_is,
+          ∙ sym (open_answer S p found call.lookup call.path.now call.oflags call.stat d.in-Ok.opening plan d.self.invariant.valid (S.clock + epoch)),
+      after c plan,
     )

@@ -1,52 +1,31 @@
-use Rattle.std.proofs.Common.{◌≡◌, Option, Some, sym, ap, subst, ◌∙◌}
+use Rattle.std.proofs.Common.{true, Ok, ap, subst, ◌∙◌}
 use Rattle.std.specs.FinMap.{get, insert}
 use Rattle.abi_types.specs.declared.who.Who.{Who}
 use Rattle.kernel_model.specs.Families.LockCalls.{unlock_in}
-use Rattle.kernel_model.specs.Outcome.{Outcome}
-use Rattle.kernel_model.specs.State.{State, ProcessState}
-use Rattle.kernel_parts.specs.OwnCalls.{IsOwnStep}
-use Rattle.kernel_core.specs.Kernel.{IsKept}
-use Rattle.kernel_core.specs.Locks.{IsDoneBy}
+use Rattle.kernel_model.specs.Done.{IsDone}
 use Rattle.kernel_core.specs.contracts.kernel.Kernel.{the_view}
-use Rattle.kernel_core.proofs.Leaving.{with_process}
-use Rattle.kernel_core.proofs.OwnCalls.{is_done, plain_kept, unlocked_only}
+use Rattle.kernel_core.proofs.OwnCalls.{own_call, own_call_done, own_call_kept, unlocked_only, IsOwnCall}
 use Rattle.kernel_core.proofs.kernel.Kernel.lock_unlock.Goals as goal
 use Rattle.kernel_core.proofs.kernel.Kernel.lock_unlock.Goals.{After-look_again}
 
-same : (c : After-look_again) → c.from.result ≡ c.args.who.now.pid
-same c = c.from.ensures ∙ ap (λ (w : Who). w.pid) c.who.view_is
-
-there : (c : After-look_again) → get c.self.inside.processes c.args.who.now.pid ≡ Some c.get_mut-own.result.now
-there c = ap (get c.self.inside.processes) (sym (same c)) ∙ sym c.get_mut-own.ensures.value
-
--- the state with that process
-put : (c : After-look_again) → record (the_view c.self.inside) { processes = insert c.self.inside.processes c.from.result c.unlock-answer.new.self; chans = c.look_again.new.channels }
-    ≡ with_process (the_view c.self.inside) c.args.who.now.pid c.unlock-answer.new.self
-put c = λ i. record (the_view c.self.inside) { processes = insert c.self.inside.processes (same c i) c.unlock-answer.new.self; chans = c.look_again.ensures i }
-
--- what the call comes to, by what its process has of its own
-abbrev does : After-look_again → Option ProcessState → Outcome
-does c own = unlock_in c.args.who.now.pid c.args.who.now.tid c.args.lock c.args.word own
-
-done : (c : After-look_again) → IsOwnStep c.get_mut-own.result.now c.unlock-answer.new.self c.unlock-answer.result (does c (Some c.get_mut-own.result.now))
-done c =
-    subst (λ t. IsOwnStep c.get_mut-own.result.now c.unlock-answer.new.self c.unlock-answer.result
-    (unlock_in c.args.who.now.pid t c.args.lock c.args.word (Some c.get_mut-own.result.now))) (ap (λ (w : Who). w.tid) c.who.view_is) (c.unlock-answer.ensures c.args.who.now.pid)
+call : (c : After-look_again) → IsOwnCall (the_view c.self.inside) c.args.self.now
+    (record (the_view c.self.inside) { processes = insert c.self.inside.processes c.from.result c.unlock-answer.new.self; chans = c.look_again.new.channels })
+    c.args.who.now.pid c.get_mut-own.result.now c.unlock-answer.new.self (unlock_in c.args.who.now.pid c.who.inside.0.1.0 c.args.lock c.args.word)
+call c =
+    own_call (the_view c.self.inside) c.args.self.now _ c.args.who.now.pid c.from.result c.get_mut-own.result.now c.unlock-answer.new.self _
+    (c.from.ensures ∙ ap (λ (w : Who). w.pid) c.who.view_is) c.self.view_is c.get_mut-own.ensures.value
+    (λ i. record (the_view c.self.inside) { processes = insert c.self.inside.processes c.from.result c.unlock-answer.new.self; chans = c.look_again.ensures i })
+    (unlocked_only c.args.who.now.pid c.who.inside.0.1.0 c.args.lock c.args.word c.get_mut-own.result.now)
 
 pub invariant_of-self : goal.invariant_of-self
 invariant_of-self d =
     let c = (goal.at.invariant_of-self d).After-look_again in
-    let own : ProcessState = c.get_mut-own.result.now in
-    subst (λ (S : State). IsKept S c.self.inside.objects.counts) (sym (put c))
-    (plain_kept (the_view c.self.inside) c.args.who.now.pid own (there c) c.unlock-answer.result (does c (Some own)) c.unlock-answer.new.self c.self.inside.objects.counts
-    (unlocked_only c.args.who.now.pid c.args.who.now.tid c.args.lock c.args.word own) (done c) c.self.invariant)
+    own_call_kept (call c) (Ok c.unlock-answer.result) c.self.inside.objects.counts (c.unlock-answer.ensures c.args.who.now.pid) tt c.self.invariant
 
 pub returns : goal.returns
 returns d =
     let c = (goal.at.returns d).After-look_again in
-    let pid = c.args.who.now.pid in
-    let S = the_view c.self.inside in
-    let own : ProcessState = c.get_mut-own.result.now in
-    subst (λ (T : State). IsDoneBy pid (does c) c.args.self.now c.unlock-answer.result T) (sym (put c))
-    (subst (λ (X : State). IsDoneBy pid (does c) X c.unlock-answer.result (with_process S pid c.unlock-answer.new.self)) c.self.view_is
-    (is_done S pid own c.unlock-answer.new.self (does c) c.unlock-answer.result (there c) (unlocked_only c.args.who.now.pid c.args.who.now.tid c.args.lock c.args.word own) c.self.invariant.valid (done c)))
+    subst (λ t. IsDone true (unlock_in c.args.who.now.pid t c.args.lock c.args.word (get c.args.self.now.processes c.args.who.now.pid)) c.args.self.now
+    (record (the_view c.self.inside) { processes = insert c.self.inside.processes c.from.result c.unlock-answer.new.self; chans = c.look_again.new.channels })
+    (Ok c.unlock-answer.result)) (ap (λ (w : Who). w.tid) c.who.view_is)
+    (own_call_done (call c) (Ok c.unlock-answer.result) (c.unlock-answer.ensures c.args.who.now.pid) tt tt c.self.invariant.valid)

@@ -1,29 +1,30 @@
-use Rattle.std.proofs.Common.{◌≡◌, ◌+◌, Option, Some, is_some, refl, sym, ap, subst, ◌∙◌}
+use Rattle.std.proofs.Common.{◌≡◌, ◌+◌, Option, Some, Result, Ok, is_some, sym, ap, subst, ◌∙◌}
 use Rattle.std.proofs.lemmas.Result.{IfOk-weaker, on_err_weaker}
 use Rattle.std.specs.FinMap.{get}
 use Rattle.std.specs.Option.{IfSome}
+use Rattle.std.specs.declared.alloc.AllocError.{AllocError}
+use Rattle.abi_types.specs.Families.{call_of_offset}
 use Rattle.abi_types.specs.declared.open_kind.OpenKind.{OpenKind}
-use Rattle.abi_types.specs.declared.open_kind.OpenKind.TheVariants.{End}
 use Rattle.abi_types.specs.declared.reply.Answer.{Answer}
 use Rattle.abi_types.specs.declared.reply.Answer.TheVariants as answer
 use Rattle.maps.specs.Maps.{number}
 use Rattle.object_store.specs.Nodes.{IsOfSameNode}
 use Rattle.object_store.specs.Objects.{Held}
-use Rattle.abi_types.specs.Families.{call_of_offset}
 use Rattle.channel_calls.specs.Calls.{end_outcome}
-use Rattle.fd_calls.specs.Calls.{offset_fd}
-use Rattle.kernel_model.specs.Outcome.{Outcome, IsSuccess}
-use Rattle.kernel_model.specs.Release.{release}
-use Rattle.kernel_model.specs.State.{State, Table, put_all}
+use Rattle.fd_calls.specs.Calls.{offset_outcome_of}
+use Rattle.kernel_model.specs.Calls.{takes_memory}
+use Rattle.kernel_model.specs.Families.FileOffsets.{with_offset}
+use Rattle.kernel_model.specs.Outcome.{Outcome, replies}
+use Rattle.kernel_model.specs.State.{State, Table, tree_of}
 use Rattle.kernel_model.specs.Valid.{IsValid}
-use Rattle.kernel_parts.specs.StreamCalls.{terms_after}
 use Rattle.kernel_parts.specs.StreamCalls.{stream_outcome}
-use Rattle.kernel_parts.proofs.Tests.{on_err}
+use Rattle.kernel_model.specs.Done.{IsAnswered, IsDone}
 use Rattle.kernel_core.specs.OffsetCalls.{offset_outcome}
 use Rattle.kernel_core.specs.contracts.kernel.Kernel.{the_view}
-use Rattle.kernel_core.proofs.FileCalls.{there_behind}
-use Rattle.kernel_core.proofs.OffsetCalls.{IsOffsetStep, end_outcome_is, lacking_answers, offset_answers, offset_outcome_is, offset_same, offset_valid, stream_answers, stream_outcome_is, with_terms}
-use Rattle.kernel_core.proofs.Opens.{IsFound, found_named, open_absent, open_found}
+use Rattle.kernel_core.proofs.Done.{done_as, done_at, done_of, done_seen, lacked, replied_seen}
+use Rattle.kernel_core.proofs.FileCalls.{there_behind, with_tree}
+use Rattle.kernel_core.proofs.OffsetCalls.{IsNoStream, absent_comes, end_outcome_is, offset_done, offset_outcome_is, offset_same, offset_takes_memory, offset_valid, stream_left, stream_outcome_is, with_terms}
+use Rattle.kernel_core.proofs.Opens.{IsFound, open_absent, open_found}
 use Rattle.kernel_core.proofs.Streams.{written_valid}
 use Rattle.kernel_core.proofs.kernel.Kernel.offset_call.Goals as goal
 use Rattle.kernel_core.proofs.kernel.Kernel.offset_call.Goals.{In-Some}
@@ -32,14 +33,26 @@ use Rattle.kernel_core.proofs.kernel.Kernel.offset_call.Goals.{In-Some}
 found : (c : In-Some) → IsFound c.self.inside.objects.kinds (get c.self.inside.tables c.args.pid) c.args.fd c.in-Some.descriptor c.in-Some.kind
 found c = open_found _ _ _ _ _ (sym c.open_of.ensures ∙ c.in-Some.is)
 
-pub returns-in_default-clause-ok : goal.returns-in_default-clause-ok
-returns-in_default-clause-ok d = λ table here.
-    let S = d.self.inside in
-    subst (λ (X : State). get X.tables d.args.pid ≡ Some table
-    → IsOffsetStep d.args.constants.now X table d.args.fd (call_of_offset d.args.call) (answer.Reply d.refused.result) X) d.self.view_is
-    (λ there. lacking_answers d.args.constants.now (the_view S) table d.args.fd (call_of_offset d.args.call) d.refused.result d.requires.on d.self.invariant.valid
-    (get table d.args.fd) refl (open_absent S.objects.kinds (get S.tables d.args.pid) table d.args.fd there (sym d.open_of.ensures ∙ d.in_default.is))
-    d.refused.ensures) here
+-- it is done on the open that was found, in the state as it is kept; and so it is by the table that the process is seen to have
+at_found : (c : In-Some) (table : Table) (U : State) (r : Result Answer AllocError) (o : Outcome) → get c.args.self.now.tables c.args.pid ≡ Some table
+    → o ≡ offset_outcome c.args.constants.now (the_view c.self.inside) (found c).table c.args.fd (call_of_offset c.args.call)
+    → IsDone (takes_memory (call_of_offset c.args.call)) o (the_view c.self.inside) U r
+    → IsDone (takes_memory (call_of_offset c.args.call)) (offset_outcome c.args.constants.now c.args.self.now table c.args.fd (call_of_offset c.args.call)) c.args.self.now U r
+at_found c table U r o here is done =
+    let S = the_view c.self.inside in
+    let called = call_of_offset c.args.call in
+    let f = found c in
+    done_at S c.args.self.now c.self.view_is (takes_memory called) (λ X t. offset_outcome c.args.constants.now X t c.args.fd called) c.args.pid f.table table U r f.there
+    here (done_as (takes_memory called) o (offset_outcome c.args.constants.now S f.table c.args.fd called) S U r is done)
+
+pub returns-in_default : goal.returns-in_default
+returns-in_default d = λ table here.
+    let S = the_view d.self.inside in
+    let called = call_of_offset d.args.call in
+    let had = ap (λ (X : State). get X.tables d.args.pid) d.self.view_is ∙ here in
+    replied_seen S d.args.self.now d.self.view_is (λ X. offset_outcome d.args.constants.now X table d.args.fd called) d.refused.result d.self.invariant.valid
+    (absent_comes d.args.constants.now S table d.args.fd called d.requires.on
+    (open_absent S.opens (get S.tables d.args.pid) table d.args.fd had (sym d.open_of.ensures ∙ d.in_default.is)) ∙ ap replies (sym d.refused.ensures))
 
 -- ---- a standard stream
 
@@ -52,21 +65,23 @@ invariant_of-self c = record {
   processes = c.self.invariant.processes;
 }
 
-pub returns-in-Terminal-clause-ok : goal.returns-in-Terminal-clause-ok
-returns-in-Terminal-clause-ok d =
-    let S = d.self.inside in
-    let stream = get S.terms d.in-Terminal.which in
-    let step : (given : Answer) → (given ≡ (stream_outcome (call_of_offset d.args.call) d.in-Terminal.which stream).answer)
-    × (d.on_stream.new.terms ≡ terms_after (stream_outcome (call_of_offset d.args.call) d.in-Terminal.which stream).updates S.terms)
-    → (table : Table) → get d.args.self.now.tables d.args.pid ≡ Some table
-    → IsOffsetStep d.args.constants.now d.args.self.now table d.args.fd (call_of_offset d.args.call) given (with_terms (the_view S) d.on_stream.new.terms) =
-    λ given done table here.
-    subst (λ (X : State). get X.tables d.args.pid ≡ Some table
-    → IsOffsetStep d.args.constants.now X table d.args.fd (call_of_offset d.args.call) given (with_terms (the_view S) d.on_stream.new.terms)) d.self.view_is
-    (λ there. stream_answers d.args.constants.now (the_view S) table d.args.fd (call_of_offset d.args.call) d.requires.on d.in-Some.descriptor d.in-Terminal.which
-    d.in-Terminal.flags d.on_stream.new.terms d.self.invariant.valid (found_named (the_view S) d.args.pid d.args.fd d.in-Some.descriptor d.in-Some.kind (found (goal.at.returns-in-Terminal-clause-ok d).In-Some) table there)
-    ((found (goal.at.returns-in-Terminal-clause-ok d).In-Some).opened ∙ ap Some d.in-Terminal.is) d.on_stream.ensures.there given done.0 done.1) here in
-    IfOk-weaker _ _ _ step d.on_stream.ensures.ok
+pub returns-in-Terminal : goal.returns-in-Terminal
+returns-in-Terminal d = λ table here.
+    let c = (goal.at.returns-in-Terminal d).In-Some in
+    let f = found c in
+    let S = the_view d.self.inside in
+    let called = call_of_offset d.args.call in
+    let t = d.in-Terminal in
+    let o = stream_outcome called t.which (get S.terms t.which) in
+    let U = with_terms S d.on_stream.new.terms in
+    let r = d.on_stream.result in
+    at_found c table U r o here
+    (sym (stream_outcome_is d.args.constants.now S f.table d.args.fd called d.in-Some.descriptor t.which t.flags d.requires.on f.named (f.opened ∙ ap Some t.is)))
+    (done_of (takes_memory called) o S U r
+    (IfOk-weaker r _ _ (λ given done. (done.0, stream_left called S t.which d.on_stream.new.terms d.self.invariant.valid d.on_stream.ensures.there done.1))
+    d.on_stream.ensures.ok)
+    (on_err_weaker r (offset_takes_memory called d.args.fd d.requires.on) d.on_stream.ensures.takes) d.on_stream.ensures.only
+    (on_err_weaker r (ap (with_terms S)) d.on_stream.ensures.err))
 
 -- ---- an end of channels
 
@@ -78,40 +93,21 @@ end_call-requires d = record {
   );
 }
 
--- what the call comes to on the end
-comes : (c : In-Some) (reads writes : Option _) (flags : _) → c.in-Some.kind ≡ End reads writes flags → offset_fd (call_of_offset c.args.call) ≡ Some c.args.fd
-    → (table : Table) → get c.args.self.now.tables c.args.pid ≡ Some table
-    → offset_outcome c.args.constants.now c.args.self.now table c.args.fd (call_of_offset c.args.call)
-    ≡ end_outcome c.args.self.now.chans c.in-Some.kind (call_of_offset c.args.call)
-comes c reads writes flags is on table here =
-    let called = call_of_offset c.args.call in
-    let S = the_view c.self.inside in
-    subst (λ (X : State). get X.tables c.args.pid ≡ Some table → offset_outcome c.args.constants.now X table c.args.fd called ≡ end_outcome X.chans c.in-Some.kind called)
-    c.self.view_is
-    (λ there.
-    end_outcome_is c.args.constants.now S table c.args.fd called c.in-Some.descriptor reads writes flags on
-    (found_named S c.args.pid c.args.fd c.in-Some.descriptor c.in-Some.kind (found c) table there) ((found c).opened ∙ ap Some is)
-    ∙ ap (λ kind. end_outcome S.chans kind called) (sym is)) here
-
-pub returns-in-End-clause-ok : goal.returns-in-End-clause-ok
-returns-in-End-clause-ok d =
-    let c = (goal.at.returns-in-End-clause-ok d).In-Some in
+pub returns-in-End : goal.returns-in-End
+returns-in-End d = λ table here.
+    let f = found (goal.at.returns-in-End d).In-Some in
+    let S = the_view d.self.inside in
+    let T = d.args.self.now in
+    let e = d.in-End in
     let called = call_of_offset d.args.call in
-    let o = end_outcome d.args.self.now.chans d.in-Some.kind called in
-    let step : (given : Answer) → (given ≡ o.answer) × (d.end_call.new.self ≡ release (put_all o.updates d.args.self.now))
-    → (table : Table) → get d.args.self.now.tables d.args.pid ≡ Some table
-    → IsOffsetStep d.args.constants.now d.args.self.now table d.args.fd called given d.end_call.new.self =
-    λ given done table here.
-    let is = comes c d.in-End.reads d.in-End.writes d.in-End.flags d.in-End.is d.requires.on table here in
-    (done.0 ∙ ap (λ (x : Outcome). x.answer) (sym is), done.1 ∙ ap (λ (x : Outcome). release (put_all x.updates d.args.self.now)) (sym is)) in
-    IfOk-weaker _ _ _ step d.end_call.ensures.ok
-
-pub returns-in-End-clause-only : goal.returns-in-End-clause-only
-returns-in-End-clause-only d =
-    let c = (goal.at.returns-in-End-clause-only d).In-Some in
-    on_err_weaker d.end_call.result (λ succeeds table here.
-    subst (λ (o : Outcome). IsSuccess o.answer) (sym (comes c d.in-End.reads d.in-End.writes d.in-End.flags d.in-End.is d.requires.on table here)) succeeds)
-    d.end_call.ensures.only
+    let takes = takes_memory called in
+    let U = d.end_call.new.self in
+    let r = d.end_call.result in
+    let is : end_outcome S.chans d.in-Some.kind called ≡ offset_outcome d.args.constants.now S f.table d.args.fd called =
+    ap (λ kind. end_outcome S.chans kind called) e.is
+    ∙ sym (end_outcome_is d.args.constants.now S f.table d.args.fd called d.in-Some.descriptor e.reads e.writes e.flags d.requires.on f.named (f.opened ∙ ap Some e.is)) in
+    at_found (goal.at.returns-in-End d).In-Some table U r (end_outcome S.chans d.in-Some.kind called) here is
+    (done_seen T S (sym d.self.view_is) takes (λ X. end_outcome X.chans d.in-Some.kind called) U r d.end_call.ensures)
 
 -- ---- any other open
 
@@ -142,45 +138,35 @@ invariant_of-self-2 c = record {
 }
 
 pub returns : goal.returns
-returns d = record {
-  ok = λ table here.
-      let S = d.self.inside in
-      let t = d.at_offset.new.tree in
-      subst (λ (X : State). get X.tables d.args.pid ≡ Some table → IsOffsetStep d.args.constants.now X table d.args.fd (call_of_offset d.args.call) (answer.Reply d.in_ok-reply.reply)
-      (record (the_view S) { opens = d.set.new.self.kinds; nodes = t.nodes; names = t.names })) d.self.view_is
-      (λ there. subst (λ (h : Held). IsOffsetStep d.args.constants.now (the_view S) table d.args.fd (call_of_offset d.args.call) (answer.Reply d.in_ok-reply.reply)
-      (record (the_view S) { opens = h.kinds; nodes = t.nodes; names = t.names })) (sym d.set.ensures)
-      (offset_answers (call_of_offset d.args.call) d.args.fd (d.self.inside.clock + d.args.constants.now.epoch) d.requires.on (the_view S) d.in-Some.descriptor.id
-      d.in-Some.kind d.at_offset.new.kind (found (goal.at.returns d).In-Some).opened (d.in_default-kind.not-Terminal, d.in_default-kind-2.not-End) d.self.invariant.valid t d.in_ok-reply.reply
-      d.in_ok-reply.ensures.ok d.in_ok-reply.ensures.nodes d.args.constants.now table d.in-Some.descriptor refl
-      (found_named (the_view S) d.args.pid d.args.fd d.in-Some.descriptor d.in-Some.kind (found (goal.at.returns d).In-Some) table there) refl)) here;
-  takes = tt;
-  only = tt;
-  err = tt;
-}
-
--- ---- where memory runs out the call would succeed
-
-pub returns-in-Terminal-clause-only : goal.returns-in-Terminal-clause-only
-returns-in-Terminal-clause-only d =
+returns d = λ table here.
+    let c = (goal.at.returns d).In-Some in
+    let f = found c in
     let S = the_view d.self.inside in
-    let c = (goal.at.returns-in-Terminal-clause-only d).In-Some in
+    let t = d.at_offset.new.tree in
     let called = call_of_offset d.args.call in
-    on_err_weaker d.on_stream.result (λ succeeds table here.
-    subst (λ (X : State). get X.tables d.args.pid ≡ Some table → IsSuccess (offset_outcome d.args.constants.now X table d.args.fd called).answer) d.self.view_is
-    (λ there. subst (λ (o : Outcome). IsSuccess o.answer)
-    (sym (stream_outcome_is d.args.constants.now S table d.args.fd called d.in-Some.descriptor d.in-Terminal.which d.in-Terminal.flags d.requires.on
-    (found_named S d.args.pid d.args.fd d.in-Some.descriptor d.in-Some.kind (found c) table there) ((found c).opened ∙ ap Some d.in-Terminal.is)))
-    succeeds) here)
-    d.on_stream.ensures.only
+    let id = d.in-Some.descriptor.id in
+    let now = S.clock + d.args.constants.now.epoch in
+    let unlike : IsNoStream d.in-Some.kind = (d.in_default-kind.not-Terminal, d.in_default-kind-2.not-End) in
+    let given = answer.Reply d.in_ok-reply.reply in
+    let o = with_offset id (offset_outcome_of now (tree_of S) called d.in-Some.kind) in
+    at_found c table (record S { opens = d.set.new.self.kinds; nodes = t.nodes; names = t.names }) (Ok given) o here
+    (sym (offset_outcome_is d.args.constants.now S f.table d.args.fd called d.in-Some.descriptor d.in-Some.kind d.requires.on f.named f.opened unlike))
+    (subst (λ (h : Held). IsAnswered o S (record S { opens = h.kinds; nodes = t.nodes; names = t.names }) given) (sym d.set.ensures)
+    (offset_done called d.args.fd now d.requires.on S id d.in-Some.kind d.at_offset.new.kind f.opened unlike d.self.invariant.valid t d.in_ok-reply.reply
+    d.in_ok-reply.ensures.ok d.in_ok-reply.ensures.nodes))
 
-pub returns-in_err-reply-clause-only : goal.returns-in_err-reply-clause-only
-returns-in_err-reply-clause-only d = on_err d.from_residual.result (λ table here.
+pub returns-in_err-reply : goal.returns-in_err-reply
+returns-in_err-reply d = λ table here.
+    let c = (goal.at.returns-in_err-reply d).In-Some in
+    let f = found c in
     let S = the_view d.self.inside in
-    let c = (goal.at.returns-in_err-reply-clause-only d).In-Some in
     let called = call_of_offset d.args.call in
-    subst (λ (X : State). get X.tables d.args.pid ≡ Some table → IsSuccess (offset_outcome d.args.constants.now X table d.args.fd called).answer) d.self.view_is
-    (λ there. subst (λ (o : Outcome). IsSuccess o.answer)
-    (sym (offset_outcome_is d.args.constants.now S table d.args.fd called d.in-Some.descriptor d.in-Some.kind d.requires.on
-    (found_named S d.args.pid d.args.fd d.in-Some.descriptor d.in-Some.kind (found c) table there) (found c).opened (d.in_default-kind.not-Terminal, d.in_default-kind-2.not-End)))
-    d.in_err-reply.ensures.only) here)
+    let now = S.clock + d.args.constants.now.epoch in
+    let unlike : IsNoStream d.in-Some.kind = (d.in_default-kind.not-Terminal, d.in_default-kind-2.not-End) in
+    let o = with_offset d.in-Some.descriptor.id (offset_outcome_of now (tree_of S) called d.in-Some.kind) in
+    let U = with_tree S d.at_offset.new.tree in
+    let r = d.from_residual.result in
+    at_found c table U r o here
+    (sym (offset_outcome_is d.args.constants.now S f.table d.args.fd called d.in-Some.descriptor d.in-Some.kind d.requires.on f.named f.opened unlike))
+    (lacked (takes_memory called) o S U r d.from_residual.ensures.0 (offset_takes_memory called d.args.fd d.requires.on d.in_err-reply.ensures.takes)
+    d.in_err-reply.ensures.only (ap (with_tree S) d.in_err-reply.ensures.same_tree))

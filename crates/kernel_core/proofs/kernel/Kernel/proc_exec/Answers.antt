@@ -1,28 +1,31 @@
-use Rattle.std.proofs.Common.{◌≡◌, true, [], Some, sym, ap, subst, ◌∙◌}
+use Rattle.std.proofs.Common.{◌≡◌, true, [], Some, refl, sym, ap, subst}
 use Rattle.std.proofs.lemmas.Result.{IfErr-at_err, IfOk-at_ok}
 use Rattle.std.specs.FinMap.{get}
 use Rattle.abi_types.specs.declared.call.Call.TheVariants as call
 use Rattle.abi_types.specs.declared.reply.Answer.TheVariants as answer
 use Rattle.kernel_model.specs.Families.ClockCalls.{can_draw}
 use Rattle.kernel_model.specs.Outcome.{Outcome}
-use Rattle.kernel_model.specs.Release.{release}
 use Rattle.kernel_model.specs.Start.{canary_words}
 use Rattle.kernel_model.specs.State.{Table, put_all}
 use Rattle.kernel_model.specs.Valid.{IsNearlyValid}
 use Rattle.kernel_model.proofs.Calls.{proper}
-use Rattle.kernel_model.proofs.Valids.{release_valid, same_value}
+use Rattle.kernel_model.proofs.Valids.{same_value}
 use Rattle.kernel_core.specs.Programs.{Begins, begun_updates, exec_outcome}
+use Rattle.kernel_core.proofs.Done.{answered_as, lacked, replied}
 use Rattle.kernel_core.proofs.ForkCalls.{table_there}
 use Rattle.kernel_core.proofs.kernel.Kernel.proc_exec.Goals as goal
 use Rattle.kernel_core.proofs.kernel.Kernel.proc_exec.Goals.{In-Ok}
 
-pub returns-in-Err-clause-ok : goal.returns-in-Err-clause-ok
-returns-in-Err-clause-ok c = λ table here.
+pub returns-in-Err : goal.returns-in-Err
+returns-in-Err c = λ table here.
+    replied _ c.args.self.now c.in-Err.reply c.requires.valid (IfErr-at_err _ c.in-Err.is c.in_ok-new.ensures.refused table here)
+
+pub returns-in_err-new : goal.returns-in_err-new
+returns-in_err-new c = λ table here.
     let S = c.args.self.now in
-    let is = IfErr-at_err _ c.in-Err.is c.in_ok-new.ensures.refused table here in (
-      sym (ap (λ (o : Outcome). o.answer) is),
-      sym (ap (λ (o : Outcome). release (put_all o.updates S)) is ∙ release_valid S c.requires.valid),
-    )
+    let who = c.args.who.now in
+    lacked true (exec_outcome c.args.constants.now.key S who.pid who.tid table c.args.fd c.args.fds.now) S S c.from_residual.result c.from_residual.ensures.0 refl
+    (c.in_err-new.ensures.only table here) refl
 
 -- the program that begins
 begins : (c : In-Ok) (table : Table) → get c.args.self.now.tables c.args.who.now.pid ≡ Some table
@@ -54,11 +57,8 @@ begin-requires-clause-nearly d = λ own there.
     (subst (λ (x : Outcome). IsNearlyValid (put_all x.updates S)) new.comes
     ((proper (call.ProcExec d.args.fd [] d.args.fds.now)).valid d.args.constants.now S who has.0 has.1 d.requires.valid.nearly))
 
-pub returns-clause-ok : goal.returns-clause-ok
-returns-clause-ok d = λ table here.
-    let c = (goal.at.returns-clause-ok d).In-Ok in
+pub returns : goal.returns
+returns d = λ table here.
     let S = d.args.self.now in
-    let new = begins c table here in (
-      ap answer.Reply d.success_with.ensures ∙ sym (ap (λ (o : Outcome). o.answer) new.comes),
-      d.begin.ensures new.own new.there ∙ sym (ap (λ (o : Outcome). release (put_all o.updates S)) new.comes),
-    )
+    let new = begins (goal.at.returns d).In-Ok table here in
+    answered_as _ _ S d.begin.new.self (answer.Reply d.success_with.result) (sym new.comes) (ap answer.Reply d.success_with.ensures, d.begin.ensures new.own new.there)

@@ -9,6 +9,7 @@ use Rattle.kernel_model.specs.State.{State, put_all, thread_of}
 use Rattle.kernel_model.specs.Step.{outcome_by, tick}
 use Rattle.kernel_model.specs.Valid.{IsValid}
 use Rattle.kernel_model.specs.View.{whole}
+use Rattle.kernel_model.specs.Done.{IsAnswered}
 use Rattle.kernel_core.proofs.Acts.{done_is_step, lack_is_step}
 use Rattle.kernel_core.proofs.Parks.{park_lacks_is_step, parked_is_step, parked_left, parks_may}
 use Rattle.kernel_core.proofs.Waiters.{thread_is_live}
@@ -23,15 +24,15 @@ returns-in-Ok-Reply-clause-step c =
     let who = c.args.who.now in
     let call = c.args.call.now in
     done_is_step constants c.args.self.now c.dispatch.new.self who call c.in-Ok-Reply.reply
-    (sym c.in-Ok-Reply.field-0-is ∙ c.in-Ok-Reply.ensures.ok.0 ∙ ap (λ (S : State). (outcome_by constants (whole (tick S)) who call).answer) c.self.view_is)
-    (c.in-Ok-Reply.ensures.ok.1 ∙ ap (λ (S : State). release (put_all (outcome_by constants (whole (tick S)) who call).updates (tick S))) c.self.view_is)
+    (subst (λ (S : State). IsAnswered (outcome_by constants (whole (tick S)) who call) (tick S) c.dispatch.new.self (answer.Reply c.in-Ok-Reply.reply)) c.self.view_is
+    (sym c.in-Ok-Reply.field-0-is ∙ c.in-Ok-Reply.ensures.0, c.in-Ok-Reply.ensures.1))
 
 pub returns-in-Err-clause-step : goal.returns-in-Err-clause-step
 returns-in-Err-clause-step c =
     let constants = c.args.constants.now in
     let who = c.args.who.now in
     let call = c.args.call.now in
-    let lacks = c.in-Err.ensures.err in
+    let lacks = c.in-Err.ensures in
     lack_is_step constants c.args.self.now c.dispatch.new.self who call (answer.Reply c.refused-in-Err.result) lacks.0
     (subst (λ (S : State). IsSuccess (outcome_by constants (whole (tick S)) who call).answer) c.self.view_is lacks.1)
     (ap answer.Reply c.refused-in-Err.ensures) (lacks.2 ∙ ap tick c.self.view_is)
@@ -41,7 +42,7 @@ returns-in-Err-clause-step c =
 answered : (c : In-Ok-Parked)
     → answer.Parked c.in-Ok-Parked.writes ≡ (outcome_by c.args.constants.now (whole (tick c.args.self.now)) c.args.who.now c.args.call.now).answer
 answered c =
-    sym c.in-Ok-Parked.field-0-is ∙ c.in-Ok-Parked.ensures.ok.0
+    sym c.in-Ok-Parked.field-0-is ∙ c.in-Ok-Parked.ensures.0
     ∙ ap (λ (S : State). (outcome_by c.args.constants.now (whole (tick S)) c.args.who.now c.args.call.now).answer) c.self.view_is
 
 valid : (c : In-Ok-Parked) → IsValid c.args.self.now
@@ -58,7 +59,7 @@ live c = thread_is_live c.args.self.now c.args.who.now.pid c.args.who.now.tid (v
 left : (c : In-Ok-Parked) → c.dispatch.new.self ≡ tick c.args.self.now
 left c =
     parked_left c.args.constants.now c.args.self.now c.args.who.now c.args.call.now c.in-Ok-Parked.writes (events c) (live c) (answered c) c.dispatch.new.self (valid c)
-    (c.in-Ok-Parked.ensures.ok.1
+    (c.in-Ok-Parked.ensures.1
     ∙ ap (λ (S : State). release (put_all (outcome_by c.args.constants.now (whole (tick S)) c.args.who.now c.args.call.now).updates (tick S))) c.self.view_is)
 
 pub park-requires-clause-there : goal.park-requires-clause-there

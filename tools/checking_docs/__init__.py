@@ -1,0 +1,1 @@
+"""What tools/check-docs checks of the documents: names, contracts, definitions, tables of crates, links and prose."""
