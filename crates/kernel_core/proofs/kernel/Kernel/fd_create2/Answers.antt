@@ -7,7 +7,7 @@ use Rattle.abi_types.specs.declared.who.Who.{Who}
 use Rattle.channel_calls.specs.Calls.{AllGoOn}
 use Rattle.channel_calls.specs.Pairs.{AreFree, AreNew, model_of, table_with}
 use Rattle.channel_calls.specs.declared.pairs.PairKind.{PairKind}
-use Rattle.fd_table.specs.Sizes.{KeysBelow, below-insert_again}
+use Rattle.fd_table.specs.Sizes.{below-insert_again}
 use Rattle.maps.specs.Maps.{insert_self}
 use Rattle.tree_model.specs.Opens.{is_used}
 use Rattle.kernel_model.specs.Families.Numbers.{can_number, made_more, object_of, next_object}
@@ -16,7 +16,7 @@ use Rattle.kernel_model.specs.Outcome.{IsSuccess, Outcome, replies}
 use Rattle.kernel_model.specs.Release.{carriers, holders, release}
 use Rattle.kernel_model.specs.Reply.{success}
 use Rattle.kernel_model.specs.State.{ProcessState, State, Table, counts_in, put_all}
-use Rattle.kernel_model.specs.Valid.{IsNearlyValid, IsValid}
+use Rattle.kernel_model.specs.Valid.{IsNearlyValid}
 use Rattle.kernel_model.proofs.Valids.{some_again}
 use Rattle.kernel_parts.specs.Released.{state_by}
 use Rattle.kernel_core.specs.Ends.{IsPair}

@@ -1,4 +1,4 @@
-use Rattle.std.proofs.Common.{◌≡◌, ℕ, ◌^◌, None, Some, Result, Ok, is_some, sym, ap, subst, ◌∙◌}
+use Rattle.std.proofs.Common.{◌≡◌, ◌^◌, None, Some, Result, Ok, is_some, sym, ap, subst, ◌∙◌}
 use Rattle.std.specs.FinMap.{get, insert}
 use Rattle.std.specs.declared.alloc.AllocError.{AllocError}
 use Rattle.abi_types.specs.Families.{call_of_socket}
