@@ -1,17 +1,14 @@
 -- What a call means, by the part of the kernel that does it.
---     change_is, state_is, file_is, offset_is, entries_is, open_is, ends_is, socket_is, exit_is, fork_is, exec_is, raise_is, poll_is, zeros_is, answered_is, unbuilt_is,
---     resolution_is, time_is, random_is, new_thread_is, thread_exit_is      the call of a view
 --     file_on, offset_on, entries_on      the descriptors of a view are those on whose opens its call works
 --     change_does, poll_does, zeros_does, answered_does, unbuilt_does      what such a call does
 --     change_replaces, change_takes_memory      a number that is replaced is there;  memory may run out for a new number
 --     all_named      where a call isn't refused each descriptor that it names is there
-use Rattle.std.proofs.Common.{◌≡◌, ℕ, Bool, true, false, cond, List, [], Option, None, Some, refl, sym, ap, subst, ◌∷◌, ◌∙◌}
+use Rattle.std.proofs.Common.{◌≡◌, Bool, true, false, cond, List, [], Option, None, Some, refl, sym, ap, ◌∷◌, ◌∙◌}
 use Rattle.abi_base.specs.declared.errno.Errno.{Errno}
 use Rattle.abi_base.specs.declared.errno.Errno.TheVariants.{Badf, Nosys, Success}
 use Rattle.abi_structures.specs.declared.events.Subscription.{Subscription}
-use Rattle.abi_structures.specs.declared.structures.ThreadAttr.{ThreadAttr}
 use Rattle.std.specs.FinMap.{get}
-use Rattle.abi_types.specs.Families.{HasFile, IsOf, answer_of, call_of_change, call_of_entry, call_of_file, call_of_offset, call_of_open, call_of_socket, fd_of_file, fd_of_offset, fds_of_entry, is_anonymous, is_unbuilt, zeros_of}
+use Rattle.abi_types.specs.Families.{HasFile, answer_of, call_of_change, call_of_entry, call_of_file, call_of_offset, fd_of_file, fd_of_offset, fds_of_entry, is_anonymous, is_unbuilt, zeros_of}
 use Rattle.abi_types.specs.declared.call.Call.{Call}
 use Rattle.abi_types.specs.declared.call.Call.TheVariants as call
 use Rattle.abi_types.specs.declared.constants.Constants.{Constants}
@@ -19,14 +16,10 @@ use Rattle.abi_types.specs.declared.family.DescriptorChange.{DescriptorChange}
 use Rattle.abi_types.specs.declared.family.DescriptorChange.TheVariants.{Close, Dup, Replace, StatPut}
 use Rattle.abi_types.specs.declared.family.EntryCall.{EntryCall}
 use Rattle.abi_types.specs.declared.family.EntryCall.TheVariants as entry
-use Rattle.abi_types.specs.declared.family.Family.{Family}
-use Rattle.abi_types.specs.declared.family.Family.TheVariants as family
 use Rattle.abi_types.specs.declared.family.FileCall.{FileCall}
 use Rattle.abi_types.specs.declared.family.FileCall.TheVariants as file
 use Rattle.abi_types.specs.declared.family.OffsetCall.{OffsetCall}
 use Rattle.abi_types.specs.declared.family.OffsetCall.TheVariants as offset
-use Rattle.abi_types.specs.declared.family.OpenCall.{OpenCall}
-use Rattle.abi_types.specs.declared.family.SocketCall.{SocketCall}
 use Rattle.abi_types.specs.declared.place.Place.{Place}
 use Rattle.abi_types.specs.declared.reply.Reply.{Reply}
 use Rattle.abi_types.specs.declared.who.Who.{Who}
@@ -51,101 +44,6 @@ use Rattle.kernel_parts.specs.Changes.{HasReplaced, IsDup, change_outcome}
 use Rattle.poll_set.specs.Polls.{first_of, poll_outcome, sight}
 use Rattle.poll_set.proofs.PollReads.{poll_reads, poll_takes_memory}
 use Rattle.kernel_core.proofs.Changes.{put_is}
-
--- ---- the call of a view
-
-module _ (c : Call) (f : Family) (of : IsOf c f) where
-  pub change_is : (v : DescriptorChange) → f ≡ family.Descriptors v → c ≡ call_of_change v
-  unfolding IsOf
-  change_is v is = subst (IsOf c) is of
-
-  pub state_is : (fd : ℕ) → f ≡ family.DescriptorState fd → c ≡ call.FdStatGet fd
-  unfolding IsOf
-  state_is fd is = subst (IsOf c) is of
-
-  pub file_is : (v : FileCall) → f ≡ family.File v → (c ≡ call_of_file v) × HasFile v
-  unfolding IsOf
-  file_is v is = subst (IsOf c) is of
-
-  pub offset_is : (v : OffsetCall) → f ≡ family.Offset v → c ≡ call_of_offset v
-  unfolding IsOf
-  offset_is v is = subst (IsOf c) is of
-
-  pub entries_is : (v : EntryCall) → f ≡ family.Entries v → c ≡ call_of_entry v
-  unfolding IsOf
-  entries_is v is = subst (IsOf c) is of
-
-  pub open_is : (v : OpenCall) → f ≡ family.Open v → c ≡ call_of_open v
-  unfolding IsOf
-  open_is v is = subst (IsOf c) is of
-
-  pub ends_is : (kind : ℕ) → f ≡ family.Ends kind → c ≡ call.FdCreate2 kind
-  unfolding IsOf
-  ends_is kind is = subst (IsOf c) is of
-
-  pub socket_is : (v : SocketCall) → f ≡ family.Socket v → c ≡ call_of_socket v
-  unfolding IsOf
-  socket_is v is = subst (IsOf c) is of
-
-  pub exit_is : (code : ℕ) → f ≡ family.Exit code → c ≡ call.ProcExit code
-  unfolding IsOf
-  exit_is code is = subst (IsOf c) is of
-
-  pub fork_is : (left : ℕ) → f ≡ family.Fork left → c ≡ call.ProcFork left
-  unfolding IsOf
-  fork_is left is = subst (IsOf c) is of
-
-  pub exec_is : (fd : ℕ) (fds : _) → f ≡ family.Exec fd fds → (bytes : List ℕ) × (c ≡ call.ProcExec fd bytes fds.now)
-  unfolding IsOf
-  exec_is fd fds is = subst (IsOf c) is of
-
-  pub raise_is : (signal : ℕ) → f ≡ family.Raise signal → c ≡ call.ProcRaise signal
-  unfolding IsOf
-  raise_is signal is = subst (IsOf c) is of
-
-  pub zeros_is : (place : Place) → f ≡ family.Zeros place → zeros_of c ≡ Some place
-  unfolding IsOf
-  zeros_is place is = subst (IsOf c) is of
-
-  pub poll_is : (subscriptions : _) → f ≡ family.Poll subscriptions → c ≡ call.Poll subscriptions.now
-  unfolding IsOf
-  poll_is subscriptions is = subst (IsOf c) is of
-
-  pub resolution_is : (clock : ℕ) → f ≡ family.ClockResolution clock → c ≡ call.ClockResGet clock
-  unfolding IsOf
-  resolution_is clock is = subst (IsOf c) is of
-
-  pub time_is : (clock precision : ℕ) → f ≡ family.ClockTime clock precision → c ≡ call.ClockTimeGet clock precision
-  unfolding IsOf
-  time_is clock precision is = subst (IsOf c) is of
-
-  pub random_is : (length : ℕ) → f ≡ family.Random length → c ≡ call.RandomGet length
-  unfolding IsOf
-  random_is length is = subst (IsOf c) is of
-
-  pub new_thread_is : (attributes : ThreadAttr) → f ≡ family.NewThread attributes → c ≡ call.ThreadCreate attributes
-  unfolding IsOf
-  new_thread_is attributes is = subst (IsOf c) is of
-
-  pub thread_exit_is : (lock word scope : ℕ) → f ≡ family.ThreadExit lock word scope → c ≡ call.ThreadExit lock word scope
-  unfolding IsOf
-  thread_exit_is lock word scope is = subst (IsOf c) is of
-
-  pub unlock_is : (lock word scope : ℕ) → f ≡ family.Unlock lock word scope → c ≡ call.LockUnlock lock word scope
-  unfolding IsOf
-  unlock_is lock word scope is = subst (IsOf c) is of
-
-  pub signal_is : (condvar word scope n : ℕ) → f ≡ family.Signal condvar word scope n → c ≡ call.CondvarSignal condvar word scope n
-  unfolding IsOf
-  signal_is condvar word scope n is = subst (IsOf c) is of
-
-  pub answered_is : (errno : Errno) → f ≡ family.Answered errno → answer_of c ≡ Some errno
-  unfolding IsOf
-  answered_is errno is = subst (IsOf c) is of
-
-  pub unbuilt_is : f ≡ family.NotBuilt → is_unbuilt c ≡ true
-  unfolding IsOf
-  unbuilt_is is = subst (IsOf c) is of
 
 -- ---- the descriptors of a view
 

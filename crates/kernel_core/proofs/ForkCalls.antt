@@ -5,7 +5,6 @@
 --     child_planned, child_seen      the child that is planned
 --     may_put, plan_unheld      it may be put, and nothing holds its open yet
 --     put_is, fork_valid, fork_kept      the state with it
---     kept_again      the state where it couldn't be put
 --     fork_is      what the call comes to
 --     MakesNone, fork_none, fork_fails      where it makes no child, it tells of none and is no success
 --     fork_succeeds      and else it is one
@@ -286,17 +285,6 @@ module _ (S : State) (left : ℕ) (plan : NewChild) (is : IsChildOf S left plan)
             (below-insert_again (2 ^ 32) (insert S.tables c table) p new (below-insert (2 ^ 32) S.tables c table kept.processes child)
             (ap is_some (get-insert-other S.tables c table p (λ e. not_parent (sym e)) ∙ is.has_table)));
       }
-
--- where nothing has changed but that a count of 0 may stand for none
-pub kept_again : (S : State) (counts : FinMap nat_cmp ℕ) → IsKept S counts → (T : State) (after : FinMap nat_cmp ℕ) → T ≡ S
-    → ((r : ℕ) → number (get after r) ≡ number (get counts r)) → IsKept T after
-kept_again S counts kept T after same numbers = record {
-  valid = subst IsValid (sym same) kept.valid;
-  counted = λ r. numbers r ∙ kept.counted r ∙ ap (λ (U : State). holders U r + carriers U r) (sym same);
-  few = subst (λ (U : State). AreFew U.chans) (sym same) kept.few;
-  small = subst (λ (U : State). AreSmall U.tables) (sym same) kept.small;
-  processes = subst (λ (U : State). KeysBelow (2 ^ 32) U.tables) (sym same) kept.processes;
-}
 
 -- ---- what the call comes to
 

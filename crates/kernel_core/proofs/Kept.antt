@@ -8,14 +8,17 @@ use Rattle.std.specs.Ordering.{nat_cmp}
 use Rattle.std.specs.FinMap.{FinMap, empty, get, insert, len}
 use Rattle.abi_base.specs.declared.limits.TheConstants.{MOST_DESCRIPTORS}
 use Rattle.abi_types.specs.declared.descriptor.Descriptor.{Descriptor}
-use Rattle.maps.specs.Maps.{get-insert-same, get-insert-other, len-insert_new, map_induction, total, total-empty, total-insert_new}
+use Rattle.channel_calls.specs.Calls.{AreFew}
+use Rattle.maps.specs.Maps.{number, get-insert-same, get-insert-other, len-insert_new, map_induction, total, total-empty, total-insert_new}
 use Rattle.fd_table.specs.Sizes.{KeysBelow, below-empty, len_at_most}
 use Rattle.fd_table.specs.Table.{IsTable}
-use Rattle.kernel_model.specs.Release.{count_in, ends, holders, is_killed, names_open, release, table_left}
+use Rattle.kernel_model.specs.Release.{carriers, count_in, ends, holders, is_killed, names_open, release, table_left}
 use Rattle.kernel_model.specs.State.{State, Table}
+use Rattle.kernel_model.specs.Valid.{IsValid}
 use Rattle.kernel_model.proofs.Ends.{table_after}
 use Rattle.kernel_model.proofs.Tests.{none_is_no, same_some}
 use Rattle.kernel_model.proofs.Valids.{some_mapped}
+use Rattle.kernel_core.specs.Kernel.{IsKept}
 
 -- ---- tables
 
@@ -46,6 +49,19 @@ small_released S small p table there =
 pub below_released : (S : State) (n : ℕ) → KeysBelow n S.tables → KeysBelow n (release S).tables
 below_released S n below p there =
     below p (sym (some_mapped (table_left (is_killed S (ends S) p)) (get S.tables p)) ∙ ap is_some (sym (table_after S (ends S) p)) ∙ there)
+
+-- ---- what is kept again
+
+-- where nothing has changed but that a count of 0 may stand for none
+pub kept_again : (S : State) (counts : FinMap nat_cmp ℕ) → IsKept S counts → (T : State) (after : FinMap nat_cmp ℕ) → T ≡ S
+    → ((r : ℕ) → number (get after r) ≡ number (get counts r)) → IsKept T after
+kept_again S counts kept T after same numbers = record {
+  valid = subst IsValid (sym same) kept.valid;
+  counted = λ r. numbers r ∙ kept.counted r ∙ ap (λ (U : State). holders U r + carriers U r) (sym same);
+  few = subst (λ (U : State). AreFew U.chans) (sym same) kept.few;
+  small = subst (λ (U : State). AreSmall U.tables) (sym same) kept.small;
+  processes = subst (λ (U : State). KeysBelow (2 ^ 32) U.tables) (sym same) kept.processes;
+}
 
 -- ---- holders
 

@@ -1,5 +1,5 @@
 //! The call that makes two ends: of a pipe, or of a pair of sockets.
-ghost use Rattle.std.specs.Prelude.{◌≡◌, ◌+◌, ◌<◌, ◌^◌, ℕ, Some, IsSome, IfOk, IfErr, true};
+ghost use Rattle.std.specs.Prelude.{◌≡◌, Some, IsSome, IfOk, IfErr, true};
 ghost use Rattle.std.specs.FinMap as map;
 ghost use Rattle.std.specs.Option.{option_map};
 ghost use Rattle.channel_calls.specs.Pairs.{model_of};

@@ -2,7 +2,7 @@ use Rattle.std.proofs.Common.{◌≡◌, ℕ, ◌^◌, List, Some, Ok, is_some, 
 use Rattle.std.specs.Ordering.{nat_cmp}
 use Rattle.std.specs.FinMap.{FinMap, get, insert}
 use Rattle.abi_types.specs.declared.open_kind.OpenKind.{OpenKind}
-use Rattle.maps.specs.Maps.{insert_self}
+use Rattle.maps.specs.Maps.{insert_self, number}
 use Rattle.fd_table.specs.Sizes.{below-insert_again}
 use Rattle.fd_table.specs.Table.{IsTable}
 use Rattle.object_store.specs.Objects.{Held}
@@ -16,14 +16,13 @@ use Rattle.kernel_model.specs.Valid.{IsNearlyValid}
 use Rattle.kernel_model.proofs.Valids.{some_again}
 use Rattle.kernel_parts.specs.Released.{state_by}
 use Rattle.kernel_parts.specs.Changes.{change_outcome, opens_after, table_after}
-use Rattle.kernel_core.specs.Kernel.{IsKept}
 use Rattle.kernel_core.specs.contracts.kernel.Kernel.{the_view}
 use Rattle.kernel_core.proofs.Released.{kept_released, released_to}
 use Rattle.kernel_core.proofs.Changes.{change_of_own, change_small, change_valid, puts_are}
 use Rattle.kernel_core.proofs.Channels.{counts_few, covered_alone, table_counts}
 use Rattle.kernel_core.proofs.Done.{done_at, lacked}
 use Rattle.kernel_core.proofs.Families.{change_takes_memory}
-use Rattle.kernel_core.proofs.Kept.{small_set}
+use Rattle.kernel_core.proofs.Kept.{kept_again, small_set}
 use Rattle.kernel_core.proofs.Uses.{change_use}
 use Rattle.kernel_core.proofs.kernel.Kernel.change_descriptors.Goals as goal
 use Rattle.kernel_core.proofs.kernel.Kernel.change_descriptors.Goals.{In_err-reply, After-release}
@@ -55,14 +54,11 @@ as_before c = λ i. record (the_view c.self.inside) {
   opens = (ap (λ (h : Held). h.kinds) c.in_err-reply.ensures.same_objects) i;
 }
 
-still_kept : (c : In_err-reply) → IsKept (unchanged c) c.change_table.new.objects.counts
-still_kept c =
-    let counts = ap (λ (h : Held). h.counts) c.in_err-reply.ensures.same_objects in
-    subst (λ (S : State). IsKept S c.change_table.new.objects.counts) (sym (as_before c))
-    (subst (λ (m : FinMap nat_cmp ℕ). IsKept (the_view c.self.inside) m) (sym counts) c.self.invariant)
-
 pub invariant_of-self : goal.invariant_of-self
-invariant_of-self c = still_kept (goal.at.invariant_of-self c).In_err-reply
+invariant_of-self d =
+    let c = (goal.at.invariant_of-self d).In_err-reply in
+    kept_again (the_view d.self.inside) d.self.inside.objects.counts d.self.invariant (unchanged c) d.change_table.new.objects.counts (as_before c)
+    (λ o. ap (λ (h : Held). number (get h.counts o)) d.in_err-reply.ensures.same_objects)
 
 -- and the change would succeed
 pub returns-in_err-reply : goal.returns-in_err-reply

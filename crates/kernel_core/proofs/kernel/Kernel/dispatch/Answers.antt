@@ -1,9 +1,9 @@
-use Rattle.std.proofs.Common.{◌≡◌, Bool, false, List, Some, None, Result, Ok, refl, sym, ap, subst, ◌∙◌}
+use Rattle.std.proofs.Common.{◌≡◌, ℕ, Bool, false, List, Some, None, Result, Ok, refl, sym, ap, subst, ◌∙◌}
 use Rattle.std.proofs.lemmas.Result.{IfOk-weaker, on_err_weaker}
 use Rattle.std.specs.FinMap.{get}
 use Rattle.std.specs.declared.alloc.AllocError.{AllocError}
 use Rattle.abi_structures.specs.declared.events.Subscription.{Subscription}
-use Rattle.abi_types.specs.Families.{call_of_change, call_of_entry, call_of_file, call_of_offset, call_of_open, call_of_socket}
+use Rattle.abi_types.specs.Families.{HasFile, IsOf, call_of_change, call_of_entry, call_of_file, call_of_offset, call_of_open, call_of_socket}
 use Rattle.abi_types.specs.declared.call.Call.{Call}
 use Rattle.abi_types.specs.declared.call.Call.TheVariants as call
 use Rattle.abi_types.specs.declared.reply.Answer.{Answer}
@@ -29,7 +29,7 @@ use Rattle.kernel_core.proofs.Acts.{act_allowed, act_refused, stat_get_sets_noth
 use Rattle.kernel_core.proofs.Channels.{socket_does}
 use Rattle.kernel_core.proofs.Done.{done_as, done_of, replied}
 use Rattle.kernel_core.proofs.EntryCalls.{entries_does, first_is_named}
-use Rattle.kernel_core.proofs.Families.{all_named, answered_does, answered_is, change_does, change_is, change_replaces, ends_is, entries_is, entries_on, exec_is, exit_is, file_is, file_on, fork_is, new_thread_is, offset_is, offset_on, open_is, poll_does, poll_in, poll_is, poll_may_lack, poll_sets_nothing, raise_is, random_is, resolution_is, signal_is, socket_is, state_is, thread_exit_is, time_is, unbuilt_does, unbuilt_is, unlock_is, zeros_does, zeros_is}
+use Rattle.kernel_core.proofs.Families.{all_named, answered_does, change_does, change_replaces, entries_on, file_on, offset_on, poll_does, poll_in, poll_may_lack, poll_sets_nothing, unbuilt_does, zeros_does}
 use Rattle.kernel_core.proofs.FileCalls.{file_does}
 use Rattle.kernel_core.proofs.OffsetCalls.{offset_does}
 use Rattle.kernel_core.proofs.OpenCalls.{open_does}
@@ -96,83 +96,93 @@ present c called table none same here =
 -- ---- the process's descriptors
 
 pub change_descriptors-requires-clause-replaced : goal.change_descriptors-requires-clause-replaced
+unfolding IsOf
 change_descriptors-requires-clause-replaced c = λ table here.
     let change = c.in-Descriptors.change in
     change_replaces table change
     (present (goal.at.change_descriptors-requires-clause-replaced c).After-refusal (call_of_change change) table c.in_default-refusal.is
-    (change_is c.args.call.now c.family.result c.family.ensures change c.in-Descriptors.is) here)
+    (subst (IsOf c.args.call.now) c.in-Descriptors.is c.family.ensures) here)
 
 pub returns-in-Descriptors : goal.returns-in-Descriptors
+unfolding IsOf
 returns-in-Descriptors c =
     let a = (goal.at.returns-in-Descriptors c).After-refusal in
     let change = c.in-Descriptors.change in
     done a c.change_descriptors.new.self c.change_descriptors.result (call_of_change change) _ c.in_default-refusal.is
-    (change_is c.args.call.now c.family.result c.family.ensures change c.in-Descriptors.is)
+    (subst (IsOf c.args.call.now) c.in-Descriptors.is c.family.ensures)
     (change_does c.args.constants.now c.args.self.now c.args.who.now c.in-Some.table.now change) (c.change_descriptors.ensures c.in-Some.table.now (there a))
 
 pub returns-in-DescriptorState : goal.returns-in-DescriptorState
+unfolding IsOf
 returns-in-DescriptorState c =
     let a = (goal.at.returns-in-DescriptorState c).After-refusal in
     let S = c.args.self.now in
     let fd = c.in-DescriptorState.fd in
     let found = get c.in-Some.table.now fd in
     done a S (Ok (answer.Reply c.fd_stat_get.result)) (call.FdStatGet fd) (stat_get (whole S) found) c.in_default-refusal.is
-    (state_is c.args.call.now c.family.result c.family.ensures fd c.in-DescriptorState.is) refl
+    (subst (IsOf c.args.call.now) c.in-DescriptorState.is c.family.ensures) refl
     (c.fd_stat_get.ensures c.in-Some.table.now (there a), sym (ap (λ us. release (put_all us S)) (stat_get_sets_nothing (whole S) found) ∙ release_valid S (valid a)))
 
 -- ---- files and directories
 
 pub file_call-requires-clause-on : goal.file_call-requires-clause-on
+unfolding IsOf
 file_call-requires-clause-on c =
     let view = c.in-File.view in
-    file_on view (file_is c.args.call.now c.family.result c.family.ensures view c.in-File.is).1 ∙ ap Some (sym c.fd.ensures)
+    let of : (c.args.call.now ≡ call_of_file view) × HasFile view = subst (IsOf c.args.call.now) c.in-File.is c.family.ensures in
+    file_on view of.1 ∙ ap Some (sym c.fd.ensures)
 
 pub returns-in-File : goal.returns-in-File
+unfolding IsOf
 returns-in-File c =
     let a = (goal.at.returns-in-File c).After-refusal in
     let view = c.in-File.view in
-    let of = file_is c.args.call.now c.family.result c.family.ensures view c.in-File.is in
+    let of : (c.args.call.now ≡ call_of_file view) × HasFile view = subst (IsOf c.args.call.now) c.in-File.is c.family.ensures in
     done a c.file_call.new.self c.file_call.result (call_of_file view) _ c.in_default-refusal.is of.0
     (file_does c.args.constants.now c.args.self.now c.args.who.now c.in-Some.table.now (call_of_file view) c.fd.result (file_on view of.1 ∙ ap Some (sym c.fd.ensures)))
     (c.file_call.ensures c.in-Some.table.now (there a))
 
 pub returns-in-Offset : goal.returns-in-Offset
+unfolding IsOf
 returns-in-Offset c =
     let a = (goal.at.returns-in-Offset c).After-refusal in
     let view = c.in-Offset.view in
     done a c.offset_call.new.self c.offset_call.result (call_of_offset view) _ c.in_default-refusal.is
-    (offset_is c.args.call.now c.family.result c.family.ensures view c.in-Offset.is)
+    (subst (IsOf c.args.call.now) c.in-Offset.is c.family.ensures)
     (offset_does c.args.constants.now c.args.self.now c.args.who.now c.in-Some.table.now (call_of_offset view) c.fd-in-Offset.result (offset_on view ∙ ap Some (sym c.fd-in-Offset.ensures)))
     (c.offset_call.ensures c.in-Some.table.now (there a))
 
 -- ---- entries of directories
 
 pub entry_call-requires-clause-named : goal.entry_call-requires-clause-named
+unfolding IsOf
 entry_call-requires-clause-named c = λ table here.
     let view = c.in-Entries.view in
     let fds = c.fds-fd.result in
     first_is_named table (call_of_entry view) fds.0 fds.1 (entries_on view ∙ ap Some (sym c.fds-fd.ensures))
     (present (goal.at.entry_call-requires-clause-named c).After-refusal (call_of_entry view) table c.in_default-refusal.is
-    (entries_is c.args.call.now c.family.result c.family.ensures view c.in-Entries.is) here)
+    (subst (IsOf c.args.call.now) c.in-Entries.is c.family.ensures) here)
 
 pub returns-in-Entries : goal.returns-in-Entries
+unfolding IsOf
 returns-in-Entries c =
     let a = (goal.at.returns-in-Entries c).After-refusal in
     let view = c.in-Entries.view in
     let fds = c.fds-fd.result in
     done a c.entry_call.new.self c.entry_call.result (call_of_entry view) _ c.in_default-refusal.is
-    (entries_is c.args.call.now c.family.result c.family.ensures view c.in-Entries.is)
+    (subst (IsOf c.args.call.now) c.in-Entries.is c.family.ensures)
     (entries_does c.args.constants.now c.args.self.now c.args.who.now c.in-Some.table.now (call_of_entry view) fds.0 fds.1 (entries_on view ∙ ap Some (sym c.fds-fd.ensures)))
     (c.entry_call.ensures c.in-Some.table.now (there a))
 
 -- ---- opens
 
 pub returns-in-Open : goal.returns-in-Open
+unfolding IsOf
 returns-in-Open c =
     let a = (goal.at.returns-in-Open c).After-refusal in
     let view = c.in-Open.view in
     done a c.file_open.new.self c.file_open.result (call_of_open view) _ c.in_default-refusal.is
-    (open_is c.args.call.now c.family.result c.family.ensures view c.in-Open.is)
+    (subst (IsOf c.args.call.now) c.in-Open.is c.family.ensures)
     (open_does c.args.constants.now c.args.self.now c.args.who.now c.in-Some.table.now view.lookup view.path.now view.oflags view.stat)
     (c.file_open.ensures c.in-Some.table.now (there a))
 
@@ -182,98 +192,111 @@ pub fd_create2-requires-clause-valid : goal.fd_create2-requires-clause-valid
 fd_create2-requires-clause-valid c = valid (goal.at.fd_create2-requires-clause-valid c).After-refusal
 
 pub returns-in-Ends : goal.returns-in-Ends
+unfolding IsOf
 returns-in-Ends c =
     let a = (goal.at.returns-in-Ends c).After-refusal in
     let kind = c.in-Ends.kind in
     done a c.fd_create2.new.self c.fd_create2.result (call.FdCreate2 kind) _ c.in_default-refusal.is
-    (ends_is c.args.call.now c.family.result c.family.ensures kind c.in-Ends.is) refl (c.fd_create2.ensures c.in-Some.table.now (there a))
+    (subst (IsOf c.args.call.now) c.in-Ends.is c.family.ensures) refl (c.fd_create2.ensures c.in-Some.table.now (there a))
 
 pub returns-in-Socket : goal.returns-in-Socket
+unfolding IsOf
 returns-in-Socket c =
     let a = (goal.at.returns-in-Socket c).After-refusal in
     let view = c.in-Socket.view in
     done a c.socket_call.new.self c.socket_call.result (call_of_socket view) _ c.in_default-refusal.is
-    (socket_is c.args.call.now c.family.result c.family.ensures view c.in-Socket.is)
+    (subst (IsOf c.args.call.now) c.in-Socket.is c.family.ensures)
     (socket_does c.args.constants.now c.args.self.now c.args.who.now c.in-Some.table.now view) (c.socket_call.ensures c.in-Some.table.now (there a))
 
 -- ---- what the process has of its own
 
 pub returns-in-Random : goal.returns-in-Random
+unfolding IsOf
 returns-in-Random c =
     let a = (goal.at.returns-in-Random c).After-refusal in
     let length = c.in-Random.length in
     done a c.random_get.new.self c.random_get.result (call.RandomGet length) _ c.in_default-refusal.is
-    (random_is c.args.call.now c.family.result c.family.ensures length c.in-Random.is) refl c.random_get.ensures
+    (subst (IsOf c.args.call.now) c.in-Random.is c.family.ensures) refl c.random_get.ensures
 
 pub returns-in-NewThread : goal.returns-in-NewThread
+unfolding IsOf
 returns-in-NewThread c =
     let a = (goal.at.returns-in-NewThread c).After-refusal in
     let attributes = c.in-NewThread.field-0 in
     done a c.thread_create.new.self c.thread_create.result (call.ThreadCreate attributes) _ c.in_default-refusal.is
-    (new_thread_is c.args.call.now c.family.result c.family.ensures attributes c.in-NewThread.is) refl c.thread_create.ensures
+    (subst (IsOf c.args.call.now) c.in-NewThread.is c.family.ensures) refl c.thread_create.ensures
 
 pub thread_exit-requires-clause-valid : goal.thread_exit-requires-clause-valid
 thread_exit-requires-clause-valid c = valid (goal.at.thread_exit-requires-clause-valid c).After-refusal
 
 pub returns-in-ThreadExit : goal.returns-in-ThreadExit
+unfolding IsOf
 returns-in-ThreadExit c =
     let a = (goal.at.returns-in-ThreadExit c).After-refusal in
     let e = c.in-ThreadExit in
     done a c.thread_exit.new.self (Ok (answer.Reply c.thread_exit.result)) (call.ThreadExit e.lock e.word e.scope) _ c.in_default-refusal.is
-    (thread_exit_is c.args.call.now c.family.result c.family.ensures e.lock e.word e.scope e.is) refl c.thread_exit.ensures
+    (subst (IsOf c.args.call.now) e.is c.family.ensures) refl c.thread_exit.ensures
 
 pub returns-in-Unlock : goal.returns-in-Unlock
+unfolding IsOf
 returns-in-Unlock c =
     let a = (goal.at.returns-in-Unlock c).After-refusal in
     let u = c.in-Unlock in
     done a c.lock_unlock.new.self (Ok c.lock_unlock.result) (call.LockUnlock u.lock u.word u.scope) _ c.in_default-refusal.is
-    (unlock_is c.args.call.now c.family.result c.family.ensures u.lock u.word u.scope u.is) refl c.lock_unlock.ensures
+    (subst (IsOf c.args.call.now) u.is c.family.ensures) refl c.lock_unlock.ensures
 
 pub returns-in-Signal : goal.returns-in-Signal
+unfolding IsOf
 returns-in-Signal c =
     let a = (goal.at.returns-in-Signal c).After-refusal in
     let s = c.in-Signal in
     done a c.condvar_signal.new.self (Ok c.condvar_signal.result) (call.CondvarSignal s.condvar s.word s.scope s.n) _ c.in_default-refusal.is
-    (signal_is c.args.call.now c.family.result c.family.ensures s.condvar s.word s.scope s.n s.is) refl c.condvar_signal.ensures
+    (subst (IsOf c.args.call.now) s.is c.family.ensures) refl c.condvar_signal.ensures
 
 -- ---- calls that change nothing, and the end of the process
 
 pub returns-in-ClockResolution : goal.returns-in-ClockResolution
+unfolding IsOf
 returns-in-ClockResolution c =
     answers (goal.at.returns-in-ClockResolution c).After-refusal (call.ClockResGet c.in-ClockResolution.clock) c.success-in-ClockResolution.result c.in_default-refusal.is
-    (resolution_is c.args.call.now c.family.result c.family.ensures c.in-ClockResolution.clock c.in-ClockResolution.is)
+    (subst (IsOf c.args.call.now) c.in-ClockResolution.is c.family.ensures)
     (ap replies (sym c.success-in-ClockResolution.ensures))
 
 pub returns-in-ClockTime : goal.returns-in-ClockTime
+unfolding IsOf
 returns-in-ClockTime c =
     let clock = c.in-ClockTime.clock in
     let precision = c.in-ClockTime.precision in
     answers (goal.at.returns-in-ClockTime c).After-refusal (call.ClockTimeGet clock precision) c.clock_time.result c.in_default-refusal.is
-    (time_is c.args.call.now c.family.result c.family.ensures clock precision c.in-ClockTime.is) (ap replies (sym c.clock_time.ensures))
+    (subst (IsOf c.args.call.now) c.in-ClockTime.is c.family.ensures) (ap replies (sym c.clock_time.ensures))
 
 pub returns-in-Zeros : goal.returns-in-Zeros
+unfolding IsOf
 returns-in-Zeros c =
     answers (goal.at.returns-in-Zeros c).After-refusal c.args.call.now c.placed.result c.in_default-refusal.is refl
     (zeros_does c.args.call.now c.in-Zeros.place c.args.constants.now (whole c.args.self.now) c.args.who.now c.in-Some.table.now
-    (zeros_is c.args.call.now c.family.result c.family.ensures c.in-Zeros.place c.in-Zeros.is) ∙ ap replies (sym c.placed.ensures))
+    (subst (IsOf c.args.call.now) c.in-Zeros.is c.family.ensures) ∙ ap replies (sym c.placed.ensures))
 
 pub returns-in-Answered : goal.returns-in-Answered
+unfolding IsOf
 returns-in-Answered c =
     answers (goal.at.returns-in-Answered c).After-refusal c.args.call.now c.refused-in-Answered.result c.in_default-refusal.is refl
     (answered_does c.args.call.now c.in-Answered.errno c.args.constants.now (whole c.args.self.now) c.args.who.now c.in-Some.table.now
-    (answered_is c.args.call.now c.family.result c.family.ensures c.in-Answered.errno c.in-Answered.is) ∙ ap replies (sym c.refused-in-Answered.ensures))
+    (subst (IsOf c.args.call.now) c.in-Answered.is c.family.ensures) ∙ ap replies (sym c.refused-in-Answered.ensures))
 
 pub returns-in-NotBuilt : goal.returns-in-NotBuilt
+unfolding IsOf
 returns-in-NotBuilt c =
     answers (goal.at.returns-in-NotBuilt c).After-refusal c.args.call.now c.refused-in-NotBuilt.result c.in_default-refusal.is refl
     (unbuilt_does c.args.call.now c.args.constants.now (whole c.args.self.now) c.args.who.now c.in-Some.table.now
-    (unbuilt_is c.args.call.now c.family.result c.family.ensures c.in-NotBuilt.is) ∙ ap replies (sym c.refused-in-NotBuilt.ensures))
+    (subst (IsOf c.args.call.now) c.in-NotBuilt.is c.family.ensures) ∙ ap replies (sym c.refused-in-NotBuilt.ensures))
 
 -- the first subscription is of no lock and no condition variable
 no_lock : (c : After-family) (subscriptions : List Subscription) → c.args.call.now ≡ call.Poll subscriptions → begins_with_lock subscriptions ≡ false
 no_lock c subscriptions same = sym (poll_by_stage subscriptions) ∙ ap (λ (it : Call). (meaning_of it).by_stage) (sym same) ∙ c.requires.events
 
 pub returns-in-Poll : goal.returns-in-Poll
+unfolding IsOf
 returns-in-Poll c =
     let a = (goal.at.returns-in-Poll c).After-refusal in
     let S = c.args.self.now in
@@ -281,7 +304,7 @@ returns-in-Poll c =
     let subscriptions = c.in-Poll.subscriptions.now in
     let table = c.in-Some.table.now in
     let o = poll_in c.args.constants.now S who table subscriptions in
-    let same = poll_is c.args.call.now c.family.result c.family.ensures c.in-Poll.subscriptions c.in-Poll.is in
+    let same : c.args.call.now ≡ call.Poll subscriptions = subst (IsOf c.args.call.now) c.in-Poll.is c.family.ensures in
     let around = c.around-around.ensures in
     let seen : _ ≡ o.answer =
     λ i. (poll_outcome (around.constants i) (around.opens i) (around.channels i) (around.statuses i) (around.moment i) table ((c.who.view_is i).since) subscriptions).answer in
@@ -294,9 +317,10 @@ returns-in-Poll c =
     (on_err c.poll.result refl))
 
 pub returns-in-Exit : goal.returns-in-Exit
+unfolding IsOf
 returns-in-Exit c =
     done (goal.at.returns-in-Exit c).After-refusal c.end_process.new.self (Ok (answer.Reply c.success.result)) (call.ProcExit c.in-Exit.code) _ c.in_default-refusal.is
-    (exit_is c.args.call.now c.family.result c.family.ensures c.in-Exit.code c.in-Exit.is) refl (ap answer.Reply c.success.ensures, c.end_process.ensures)
+    (subst (IsOf c.args.call.now) c.in-Exit.is c.family.ensures) refl (ap answer.Reply c.success.ensures, c.end_process.ensures)
 
 -- ---- children, programs and signals
 
@@ -304,26 +328,30 @@ pub proc_fork-requires-clause-valid : goal.proc_fork-requires-clause-valid
 proc_fork-requires-clause-valid c = valid (goal.at.proc_fork-requires-clause-valid c).After-refusal
 
 pub returns-in-Fork : goal.returns-in-Fork
+unfolding IsOf
 returns-in-Fork c =
     let a = (goal.at.returns-in-Fork c).After-refusal in
     done a c.proc_fork.new.self c.proc_fork.result (call.ProcFork c.in-Fork.left) _ c.in_default-refusal.is
-    (fork_is c.args.call.now c.family.result c.family.ensures c.in-Fork.left c.in-Fork.is) refl (c.proc_fork.ensures c.in-Some.table.now (there a))
+    (subst (IsOf c.args.call.now) c.in-Fork.is c.family.ensures) refl (c.proc_fork.ensures c.in-Some.table.now (there a))
 
 pub proc_exec-requires-clause-valid : goal.proc_exec-requires-clause-valid
 proc_exec-requires-clause-valid c = valid (goal.at.proc_exec-requires-clause-valid c).After-refusal
 
 pub returns-in-Exec : goal.returns-in-Exec
+unfolding IsOf
 returns-in-Exec c =
     let a = (goal.at.returns-in-Exec c).After-refusal in
-    let same = exec_is c.args.call.now c.family.result c.family.ensures c.in-Exec.fd c.in-Exec.fds c.in-Exec.is in
-    done a c.proc_exec.new.self c.proc_exec.result (call.ProcExec c.in-Exec.fd same.0 c.in-Exec.fds.now) _ c.in_default-refusal.is same.1 refl
+    let e = c.in-Exec in
+    let same : (bytes : List ℕ) × (c.args.call.now ≡ call.ProcExec e.fd bytes e.fds.now) = subst (IsOf c.args.call.now) e.is c.family.ensures in
+    done a c.proc_exec.new.self c.proc_exec.result (call.ProcExec e.fd same.0 e.fds.now) _ c.in_default-refusal.is same.1 refl
     (c.proc_exec.ensures c.in-Some.table.now (there a))
 
 pub proc_raise-requires-clause-valid : goal.proc_raise-requires-clause-valid
 proc_raise-requires-clause-valid c = valid (goal.at.proc_raise-requires-clause-valid c).After-refusal
 
 pub returns-in-Raise : goal.returns-in-Raise
+unfolding IsOf
 returns-in-Raise c =
     let a = (goal.at.returns-in-Raise c).After-refusal in
     done a c.proc_raise.new.self (Ok (answer.Reply c.proc_raise.result)) (call.ProcRaise c.in-Raise.signal) _ c.in_default-refusal.is
-    (raise_is c.args.call.now c.family.result c.family.ensures c.in-Raise.signal c.in-Raise.is) refl c.proc_raise.ensures
+    (subst (IsOf c.args.call.now) c.in-Raise.is c.family.ensures) refl c.proc_raise.ensures

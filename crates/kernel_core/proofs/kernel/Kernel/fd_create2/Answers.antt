@@ -7,16 +7,16 @@ use Rattle.abi_types.specs.declared.who.Who.{Who}
 use Rattle.channel_calls.specs.Calls.{AllGoOn}
 use Rattle.channel_calls.specs.Pairs.{AreFree, AreNew, model_of, table_with}
 use Rattle.channel_calls.specs.declared.pairs.PairKind.{PairKind}
-use Rattle.fd_table.specs.Sizes.{KeysBelow, below-insert_again}
+use Rattle.fd_table.specs.Sizes.{below-insert_again}
 use Rattle.maps.specs.Maps.{insert_self}
 use Rattle.tree_model.specs.Opens.{is_used}
 use Rattle.kernel_model.specs.Families.Numbers.{can_number, made_more, object_of, next_object}
 use Rattle.kernel_model.specs.Families.SocketCalls as model
 use Rattle.kernel_model.specs.Outcome.{IsSuccess, Outcome, replies}
-use Rattle.kernel_model.specs.Release.{release}
+use Rattle.kernel_model.specs.Release.{carriers, holders, release}
 use Rattle.kernel_model.specs.Reply.{success}
 use Rattle.kernel_model.specs.State.{ProcessState, State, Table, counts_in, put_all}
-use Rattle.kernel_model.specs.Valid.{IsNearlyValid, IsValid}
+use Rattle.kernel_model.specs.Valid.{IsNearlyValid}
 use Rattle.kernel_model.proofs.Valids.{some_again}
 use Rattle.kernel_parts.specs.Released.{state_by}
 use Rattle.kernel_core.specs.Ends.{IsPair}
@@ -25,10 +25,10 @@ use Rattle.kernel_core.proofs.Released.{kept_released, released_to}
 use Rattle.kernel_core.proofs.Channels.{AreCounted, moved_counts}
 use Rattle.kernel_core.proofs.Done.{done_at, lacked, replied}
 use Rattle.kernel_core.proofs.EndCalls.{create_is, create_nearly, numbers_can, pair_fits, pair_free, pair_going, pair_new, pair_put, pair_small, pair_table, pair_used, with_pair}
-use Rattle.kernel_core.proofs.Kept.{AreSmall, small_set}
+use Rattle.kernel_core.proofs.Kept.{kept_again, small_set}
 use Rattle.kernel_core.proofs.OpenCalls.{planned_before}
 use Rattle.kernel_core.proofs.kernel.Kernel.fd_create2.Goals as goal
-use Rattle.kernel_core.proofs.kernel.Kernel.fd_create2.Goals.{After-get_mut-table, After-put_pair, After-release}
+use Rattle.kernel_core.proofs.kernel.Kernel.fd_create2.Goals.{After-get_mut-table, After-put_pair, After-release, In_err-put_pair}
 
 -- what the call comes to
 abbrev Comes : ℕ → Who → State → Table → Outcome
@@ -119,27 +119,26 @@ counted c =
 
 -- ---- where memory runs out nothing has changed
 
+abbrev unchanged : In_err-put_pair → State
+unchanged c = record (the_view c.self.inside) {
+  tables = insert c.self.inside.tables c.from-p.result c.put_pair.new.table;
+  opens = c.put_pair.new.objects.kinds;
+  chans = c.put_pair.new.channels;
+}
+
+as_before : (c : In_err-put_pair) → unchanged c ≡ the_view c.self.inside
+as_before c =
+    let e = c.in_err-put_pair.ensures in
+    let tables : insert c.self.inside.tables c.from-p.result c.put_pair.new.table ≡ c.self.inside.tables =
+    ap (insert c.self.inside.tables c.from-p.result) e.same_table ∙ insert_self c.self.inside.tables c.from-p.result c.get_mut-table.result.now (sym c.get_mut-table.ensures.value) in
+    λ i. record (the_view c.self.inside) { tables = tables i; opens = e.same_kinds i; chans = e.same_channels i }
+
 pub invariant_of-self : goal.invariant_of-self
 invariant_of-self d =
-    let k = d.self.inside in
-    let tables : insert k.tables d.from-p.result d.put_pair.new.table ≡ k.tables =
-    ap (insert k.tables d.from-p.result) d.in_err-put_pair.ensures.same_table ∙ insert_self k.tables d.from-p.result d.get_mut-table.result.now (sym d.get_mut-table.ensures.value) in
-    let before : the_view k ≡ record (the_view k) {
-      tables = insert k.tables d.from-p.result d.put_pair.new.table;
-      opens = d.put_pair.new.objects.kinds;
-      chans = d.put_pair.new.channels;
-    } = λ i. record (the_view k) {
-      tables = sym tables i;
-      opens = sym d.in_err-put_pair.ensures.same_kinds i;
-      chans = sym d.in_err-put_pair.ensures.same_channels i;
-    } in
-    record {
-      valid = subst IsValid before d.self.invariant.valid;
-      counted = counted (goal.at.invariant_of-self d).After-put_pair;
-      few = d.put_pair.ensures.few d.self.invariant.few;
-      small = subst (λ (S : State). AreSmall S.tables) before d.self.invariant.small;
-      processes = subst (λ (S : State). KeysBelow (2 ^ 32) S.tables) before d.self.invariant.processes;
-    }
+    let same = as_before (goal.at.invariant_of-self d).In_err-put_pair in
+    kept_again (the_view d.self.inside) d.self.inside.objects.counts d.self.invariant (unchanged (goal.at.invariant_of-self d).In_err-put_pair)
+    d.put_pair.new.objects.counts same
+    (λ o. counted (goal.at.invariant_of-self d).After-put_pair o ∙ ap (λ (S : State). holders S o + carriers S o) same ∙ sym (d.self.invariant.counted o))
 
 -- what was planned succeeds
 outcome_is : (c : After-get_mut-table) → model.create (model.made_of c.args.kind) c.args.who.now.pid c.args.who.now.tid (get c.self.inside.processes c.args.who.now.pid) c.get_mut-table.result.now
@@ -157,24 +156,13 @@ outcome_is c =
 
 pub returns-in_err-put_pair : goal.returns-in_err-put_pair
 returns-in_err-put_pair d = λ table here.
-    let c = (goal.at.returns-in_err-put_pair d).After-get_mut-table in
-    let k = d.self.inside in
-    let U = record (the_view k) {
-      tables = insert k.tables d.from-p.result d.put_pair.new.table;
-      opens = d.put_pair.new.objects.kinds;
-      chans = d.put_pair.new.channels;
-    } in
-    let tables : insert k.tables d.from-p.result d.put_pair.new.table ≡ k.tables =
-    ap (insert k.tables d.from-p.result) d.in_err-put_pair.ensures.same_table ∙ insert_self k.tables d.from-p.result d.get_mut-table.result.now (sym d.get_mut-table.ensures.value) in
+    let c = (goal.at.returns-in_err-put_pair d).In_err-put_pair in
+    let g = (goal.at.returns-in_err-put_pair d).After-get_mut-table in
+    let S = the_view d.self.inside in
     let found = d.get_mut-table.result.now in
-    done_at (the_view k) d.args.self.now d.self.view_is true (Comes d.args.kind d.args.who.now) d.args.who.now.pid found table U d.from_residual.result (there c) here
-    (lacked true (Comes d.args.kind d.args.who.now (the_view k) found) (the_view k) U d.from_residual.result d.from_residual.ensures.0 refl
-    (subst (λ (o : Outcome). IsSuccess o.answer) (sym (outcome_is c)) refl)
-    (λ i. record (the_view k) {
-      tables = tables i;
-      opens = d.in_err-put_pair.ensures.same_kinds i;
-      chans = d.in_err-put_pair.ensures.same_channels i;
-    }))
+    done_at S d.args.self.now d.self.view_is true (Comes d.args.kind d.args.who.now) d.args.who.now.pid found table (unchanged c) d.from_residual.result (there g) here
+    (lacked true (Comes d.args.kind d.args.who.now S found) S (unchanged c) d.from_residual.result d.from_residual.ensures.0 refl
+    (subst (λ (o : Outcome). IsSuccess o.answer) (sym (outcome_is g)) refl) (as_before c))
 
 -- ---- a pair is made
 

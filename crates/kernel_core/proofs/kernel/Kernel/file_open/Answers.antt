@@ -2,14 +2,14 @@ use Rattle.std.proofs.Common.{◌≡◌, ℕ, ◌+◌, ◌^◌, true, Some, Ok, 
 use Rattle.std.specs.FinMap.{get, insert}
 use Rattle.abi_base.specs.declared.limits.TheConstants.{MOST_DESCRIPTORS}
 use Rattle.abi_types.specs.declared.reply.Answer.TheVariants as answer
-use Rattle.fd_table.specs.Sizes.{KeysBelow, below-insert, below-insert_again}
+use Rattle.fd_table.specs.Sizes.{below-insert, below-insert_again}
 use Rattle.fd_table.specs.Table.{IsTable}
 use Rattle.maps.specs.Maps.{insert_self}
 use Rattle.tree_model.specs.Opens.{is_used}
 use Rattle.tree_model.specs.Retained.{retained}
 use Rattle.kernel_model.specs.Families.Numbers.{made_more, next_object}
 use Rattle.kernel_model.specs.Outcome.{Outcome, IsSuccess}
-use Rattle.kernel_model.specs.Release.{carriers, holders, release}
+use Rattle.kernel_model.specs.Release.{release}
 use Rattle.kernel_model.specs.Reply.{success}
 use Rattle.kernel_model.specs.State.{State, Table, Tree, counts_in, put_all, tree_of}
 use Rattle.kernel_model.specs.Valid.{IsValid}
@@ -19,7 +19,7 @@ use Rattle.kernel_core.specs.Opening.{IsOpening, open_outcome}
 use Rattle.kernel_core.specs.contracts.kernel.Kernel.{the_view}
 use Rattle.kernel_core.proofs.Channels.{table_counts}
 use Rattle.kernel_core.proofs.Done.{done_at, lacked, replied}
-use Rattle.kernel_core.proofs.Kept.{AreSmall, small_set}
+use Rattle.kernel_core.proofs.Kept.{kept_again, small_set}
 use Rattle.kernel_core.proofs.OpenCalls.{none_holds_it, node_is_new, open_answer, open_fits, open_is_new, open_keeps, open_released, open_valid, planned_before}
 use Rattle.kernel_core.proofs.kernel.Kernel.file_open.Goals as goal
 use Rattle.kernel_core.proofs.kernel.Kernel.file_open.Goals.{After-get_mut-table, In_err-put_opening, After-success}
@@ -90,14 +90,8 @@ as_before c =
 pub invariant_of-self : goal.invariant_of-self
 invariant_of-self d =
     let c = (goal.at.invariant_of-self d).In_err-put_opening in
-    let same = sym (as_before c) in
-    record {
-      valid = subst IsValid same d.self.invariant.valid;
-      counted = λ o. d.in_err-put_opening.ensures.same_counts o ∙ d.self.invariant.counted o ∙ ap (λ (S : State). holders S o + carriers S o) same;
-      few = d.self.invariant.few;
-      small = subst (λ (S : State). AreSmall S.tables) same d.self.invariant.small;
-      processes = subst (λ (S : State). KeysBelow (2 ^ 32) S.tables) same d.self.invariant.processes;
-    }
+    kept_again (the_view d.self.inside) d.self.inside.objects.counts d.self.invariant (unchanged c) d.put_opening.new.objects.counts (as_before c)
+    d.in_err-put_opening.ensures.same_counts
 
 -- what was planned succeeds
 pub returns-in_err-put_opening : goal.returns-in_err-put_opening

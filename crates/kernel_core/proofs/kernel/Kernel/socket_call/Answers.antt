@@ -1,12 +1,12 @@
-use Rattle.std.proofs.Common.{◌≡◌, ℕ, ◌^◌, None, Some, Result, Ok, is_some, sym, ap, subst, ◌∙◌}
-use Rattle.std.specs.Ordering.{nat_cmp}
-use Rattle.std.specs.FinMap.{FinMap, get, insert}
+use Rattle.std.proofs.Common.{◌≡◌, ◌^◌, None, Some, Result, Ok, is_some, sym, ap, subst, ◌∙◌}
+use Rattle.std.specs.FinMap.{get, insert}
 use Rattle.std.specs.declared.alloc.AllocError.{AllocError}
 use Rattle.abi_types.specs.Families.{call_of_socket}
 use Rattle.abi_types.specs.declared.reply.Answer.{Answer}
 use Rattle.channel_calls.specs.Calls.{channels_after, socket_outcome, table_after}
 use Rattle.fd_table.specs.Sizes.{below-insert_again}
-use Rattle.maps.specs.Maps.{insert_self}
+use Rattle.maps.specs.Maps.{insert_self, number}
+use Rattle.object_store.specs.Objects.{Held}
 use Rattle.kernel_model.specs.Calls.{takes_memory}
 use Rattle.kernel_model.specs.Outcome.{replies}
 use Rattle.kernel_model.specs.Release.{release}
@@ -16,16 +16,15 @@ use Rattle.kernel_parts.specs.Entries.{open_in, open_with}
 use Rattle.kernel_parts.specs.Released.{state_by}
 use Rattle.kernel_parts.specs.Waiting.{fd_of_socket, socket_at}
 use Rattle.kernel_model.specs.Done.{IsDone}
-use Rattle.kernel_core.specs.Kernel.{IsKept}
 use Rattle.kernel_core.specs.Sockets.{socket_on}
 use Rattle.kernel_core.specs.contracts.kernel.Kernel.{the_view}
 use Rattle.kernel_core.proofs.Released.{kept_released, released_to}
 use Rattle.kernel_core.proofs.Channels.{covered_by, moved_counts, socket_found, socket_going, socket_left_nearly, socket_put, socket_small}
 use Rattle.kernel_core.proofs.Done.{done_as, done_at, lacked, replied_seen}
-use Rattle.kernel_core.proofs.Kept.{small_set}
+use Rattle.kernel_core.proofs.Kept.{kept_again, small_set}
 use Rattle.kernel_core.proofs.Opens.{IsFound, found_kind, open_absent, open_found}
 use Rattle.kernel_core.proofs.kernel.Kernel.socket_call.Goals as goal
-use Rattle.kernel_core.proofs.kernel.Kernel.socket_call.Goals.{In-Some, After-get_mut-table, After-release}
+use Rattle.kernel_core.proofs.kernel.Kernel.socket_call.Goals.{In-Some, In_err-answer, After-get_mut-table, After-release}
 
 -- the descriptor and its open
 found : (c : In-Some) → IsFound c.self.inside.objects.kinds (get c.self.inside.tables c.args.pid) (fd_of_socket c.args.call) c.in-Some.field-0-0 c.in-Some.kind
@@ -75,47 +74,33 @@ on_socket-requires c = record {
 }
 
 -- where memory runs out nothing has changed
+abbrev unchanged : In_err-answer → State
+unchanged c = record (the_view c.self.inside) {
+  tables = insert c.self.inside.tables c.from.result c.on_socket.new.table;
+  opens = c.on_socket.new.objects.kinds;
+  chans = c.on_socket.new.channels;
+}
+
+as_before : (c : In_err-answer) → unchanged c ≡ the_view c.self.inside
+as_before c =
+    let e = c.in_err-answer.ensures in
+    let tables : insert c.self.inside.tables c.from.result c.on_socket.new.table ≡ c.self.inside.tables =
+    ap (insert c.self.inside.tables c.from.result) e.same_table ∙ insert_self c.self.inside.tables c.from.result c.get_mut-table.result.now (sym c.get_mut-table.ensures.value) in
+    λ i. record (the_view c.self.inside) { tables = tables i; opens = (e.same_objects i).kinds; chans = e.same_channels i }
+
 pub invariant_of-self : goal.invariant_of-self
 invariant_of-self d =
-    let k = d.self.inside in
-    let tables : insert k.tables d.from.result d.on_socket.new.table ≡ k.tables =
-    ap (insert k.tables d.from.result) d.in_err-answer.ensures.same_table ∙ insert_self k.tables d.from.result d.get_mut-table.result.now (sym d.get_mut-table.ensures.value) in
-    let before : (the_view k, k.objects.counts) ≡ (
-      record (the_view k) {
-        tables = insert k.tables d.from.result d.on_socket.new.table;
-        opens = d.on_socket.new.objects.kinds;
-        chans = d.on_socket.new.channels;
-      },
-      d.on_socket.new.objects.counts,
-    ) = λ i. (
-      record (the_view k) {
-        tables = sym tables i;
-        opens = (sym d.in_err-answer.ensures.same_objects i).kinds;
-        chans = sym d.in_err-answer.ensures.same_channels i;
-      },
-      (sym d.in_err-answer.ensures.same_objects i).counts,
-    ) in
-    subst (λ (x : State × FinMap nat_cmp ℕ). IsKept x.0 x.1) before d.self.invariant
+    kept_again (the_view d.self.inside) d.self.inside.objects.counts d.self.invariant (unchanged (goal.at.invariant_of-self d).In_err-answer)
+    d.on_socket.new.objects.counts (as_before (goal.at.invariant_of-self d).In_err-answer)
+    (λ o. ap (λ (h : Held). number (get h.counts o)) d.in_err-answer.ensures.same_objects)
 
 pub returns-in_err-answer : goal.returns-in_err-answer
 returns-in_err-answer d = λ table here.
-    let k = d.self.inside in
+    let c = (goal.at.returns-in_err-answer d).In_err-answer in
     let called = call_of_socket d.args.call in
-    let U = record (the_view k) {
-      tables = insert k.tables d.from.result d.on_socket.new.table;
-      opens = d.on_socket.new.objects.kinds;
-      chans = d.on_socket.new.channels;
-    } in
-    let tables : insert k.tables d.from.result d.on_socket.new.table ≡ k.tables =
-    ap (insert k.tables d.from.result) d.in_err-answer.ensures.same_table ∙ insert_self k.tables d.from.result d.get_mut-table.result.now (sym d.get_mut-table.ensures.value) in
-    at_found (goal.at.returns-in_err-answer d).After-get_mut-table table U d.from_residual.result (found (goal.at.returns-in_err-answer d).In-Some) here
-    (lacked (takes_memory called) (socket_outcome d.args.pid d.get_mut-table.result.now k.channels d.in-Some.kind called) (the_view k) U d.from_residual.result
-    d.from_residual.ensures.0 d.in_err-answer.ensures.takes (d.in_err-answer.ensures.only d.args.pid)
-    (λ i. record (the_view k) {
-      tables = tables i;
-      opens = (d.in_err-answer.ensures.same_objects i).kinds;
-      chans = d.in_err-answer.ensures.same_channels i;
-    }))
+    at_found (goal.at.returns-in_err-answer d).After-get_mut-table table (unchanged c) d.from_residual.result (found (goal.at.returns-in_err-answer d).In-Some) here
+    (lacked (takes_memory called) (socket_outcome d.args.pid d.get_mut-table.result.now d.self.inside.channels d.in-Some.kind called) (the_view d.self.inside)
+    (unchanged c) d.from_residual.result d.from_residual.ensures.0 d.in_err-answer.ensures.takes (d.in_err-answer.ensures.only d.args.pid) (as_before c))
 
 -- ---- the call, and what ends after it
 
