@@ -26,6 +26,7 @@
 #define CLOUDABI_ELOOP         32
 #define CLOUDABI_EMFILE        33
 #define CLOUDABI_EMLINK        34
+#define CLOUDABI_EMSGSIZE      35
 #define CLOUDABI_ENAMETOOLONG  37
 #define CLOUDABI_ENOBUFS       42
 #define CLOUDABI_ENOENT        44

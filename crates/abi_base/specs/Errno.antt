@@ -1,6 +1,6 @@
 use Rattle.std.specs.Prelude.{ℕ, List, codes}
 use Rattle.abi_base.specs.declared.errno.Errno.{Errno}
-use Rattle.abi_base.specs.declared.errno.Errno.TheVariants.{Success, TooBig, Again, Badf, Deadlk, Exist, Fault, Fbig, Ilseq, Inval, Isdir, Loop, Mfile, Mlink, NameTooLong, Nobufs, Noent, Noexec, Nomem, Nosys, Notdir, Notempty, Notsock, Notsup, Perm, Pipe, TimedOut, Notcapable}
+use Rattle.abi_base.specs.declared.errno.Errno.TheVariants.{Success, TooBig, Again, Badf, Deadlk, Exist, Fault, Fbig, Ilseq, Inval, Isdir, Loop, Mfile, Mlink, MsgSize, NameTooLong, Nobufs, Noent, Noexec, Nomem, Nosys, Notdir, Notempty, Notsock, Notsup, Perm, Pipe, TimedOut, Notcapable}
 
 -- the number of each error in this profile
 abbrev pub number_of : Errno → ℕ
@@ -18,6 +18,7 @@ number_of Isdir = 31
 number_of Loop = 32
 number_of Mfile = 33
 number_of Mlink = 34
+number_of MsgSize = 35
 number_of NameTooLong = 37
 number_of Nobufs = 42
 number_of Noent = 44
@@ -49,6 +50,7 @@ name_of Isdir = codes "ISDIR"
 name_of Loop = codes "LOOP"
 name_of Mfile = codes "MFILE"
 name_of Mlink = codes "MLINK"
+name_of MsgSize = codes "MSGSIZE"
 name_of NameTooLong = codes "NAMETOOLONG"
 name_of Nobufs = codes "NOBUFS"
 name_of Noent = codes "NOENT"
