@@ -11,3 +11,6 @@ pub const GUEST_END: u64 = 0x40_0000_0000;
 
 /// The most pages that a guest may have.
 pub const PAGE_LIMIT: u64 = 65_536;
+
+/// Each instruction's address is a multiple of this.
+pub const INSTRUCTION_ALIGNMENT: u64 = 4;

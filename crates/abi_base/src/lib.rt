@@ -4,7 +4,7 @@
 //! CloudABI gives the names. The numbers are this project's profile, in docs/ABI.md.
 #![tactic(auto)]
 
-pub use address_space::{GUEST_BEGIN, GUEST_END, PAGE_LIMIT, PAGE_SIZE};
+pub use address_space::{GUEST_BEGIN, GUEST_END, INSTRUCTION_ALIGNMENT, PAGE_LIMIT, PAGE_SIZE};
 pub use errno::Errno;
 pub use grant::{Grant, GrantList, GrantTarget};
 pub use ids::{ObjId, Pid, Tid, TidList};

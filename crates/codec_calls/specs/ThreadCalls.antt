@@ -3,6 +3,7 @@ use Rattle.std.specs.Prelude.{◌+◌, ◌%◌, ◌^◌, Bool, not, ◌==◌, na
 use Rattle.abi_base.specs.declared.errno.Errno.{Errno}
 use Rattle.abi_base.specs.declared.errno.Errno.TheVariants.{Inval}
 use Rattle.abi_base.specs.Registers.{Registers}
+use Rattle.abi_base.specs.declared.address_space.TheConstants.{INSTRUCTION_ALIGNMENT}
 use Rattle.abi_structures.specs.declared.structures.ThreadAttr.{ThreadAttr}
 use Rattle.abi_types.specs.declared.call.Call.{Call}
 use Rattle.abi_types.specs.declared.call.Call.TheVariants.{ThreadCreate, ThreadYield}
@@ -17,7 +18,7 @@ stack_passes attributes = nat_le (2 ^ 64) (attributes.stack + attributes.stackle
 
 -- no instruction stands at the entry
 abbrev pub entry_misaligned : ThreadAttr → Bool
-entry_misaligned attributes = not (attributes.entry % 4 == 0)
+entry_misaligned attributes = not (attributes.entry % INSTRUCTION_ALIGNMENT == 0)
 
 -- thread_create: the address of how the thread begins
 abbrev pub thread_create_of : Pages → Registers → Result Call Errno

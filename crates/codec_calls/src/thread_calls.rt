@@ -2,6 +2,7 @@
 ghost use Rattle.std.specs.Prelude.{◌≡◌};
 ghost use Rattle.codec_calls.specs.ThreadCalls.{entry_misaligned, stack_passes, thread_create_of, thread_yield_of};
 
+use abi_base::INSTRUCTION_ALIGNMENT;
 use abi_types::{Call, Errno, Regs, ThreadAttr};
 use codec_arguments::{read_threadattr, refuse_when};
 use guest_memory::GuestMemory;
@@ -17,7 +18,7 @@ fn stack_passes(attributes: &ThreadAttr) -> bool
 fn entry_misaligned(attributes: &ThreadAttr) -> bool
     ensures { result ≡ entry_misaligned attributes.now }
 {
-    attributes.entry % 4 != 0
+    attributes.entry % INSTRUCTION_ALIGNMENT != 0
 }
 
 /// thread_create: the address of how the thread begins. FAULT where that can't be read; INVAL for a stack whose end is past

@@ -1,6 +1,6 @@
 -- The checks of a file one after the other, as tests.
 use Rattle.std.specs.Prelude.{◌≡◌, ◌<◌, ◌≤◌, ◌⊎◌, ℕ, zero, suc, ◌+◌, ◌*◌, ◌%◌, ◌==◌, ◌&&◌, ◌||◌, Bool, cond, not, nat_lt, nat_le, List, length, take, slice_index, bit_and, Option, Some, None, Result, Ok, Err}
-use Rattle.abi_base.specs.declared.address_space.TheConstants.{GUEST_BEGIN}
+use Rattle.abi_base.specs.declared.address_space.TheConstants.{GUEST_BEGIN, INSTRUCTION_ALIGNMENT}
 use Rattle.std.specs.List.{list_any}
 use Rattle.std.specs.Str.{bytes_eq}
 use Rattle.elf_image.specs.Faults.{magic, base_of, entry_of}
@@ -111,7 +111,7 @@ may_run base address header =
 
 -- whether the program may begin to run at the address
 abbrev pub is_entry : ℕ → List ProgramHeader → ℕ → Bool
-is_entry base headers entry = entry % 4 == 0 && list_any (may_run base entry) headers
+is_entry base headers entry = entry % INSTRUCTION_ALIGNMENT == 0 && list_any (may_run base entry) headers
 
 abbrev pub is_interp : ProgramHeader → Bool
 is_interp header = header.kind == 3

@@ -1,6 +1,7 @@
 -- Which fault a file has.
 use Rattle.std.specs.Prelude.{◌≡◌, ◌≢◌, ℕ, ◌+◌, ◌%◌, ◌<◌, ◌⊎◌, ◌==◌, cond, List, [], ◌∷◌, length, take, slice_index, bit_and}
 use Rattle.std.specs.List.{Any}
+use Rattle.abi_base.specs.declared.address_space.TheConstants.{INSTRUCTION_ALIGNMENT}
 use Rattle.elf_image.specs.Fields.{e_type, e_machine, e_entry, e_flags, e_phentsize, e_phnum, program_headers, program_headers_end}
 use Rattle.elf_image.specs.Segments.{IsUnloadable, MeetsEarlier, IsExecutable}
 use Rattle.elf_image.specs.declared.fault.ElfFault.{ElfFault}
@@ -48,7 +49,7 @@ HasFault bytes (fault.Segment k) =
     IsFirst (IsUnloadable (base_of bytes) (length bytes) (program_headers bytes)) (e_phnum bytes) k
 HasFault bytes (fault.Overlap k) = IsFirst (MeetsEarlier (base_of bytes) (program_headers bytes)) (e_phnum bytes) k
 HasFault bytes fault.Entry =
-    (entry_of bytes % 4 ≢ 0) ⊎ (IsExecutable (base_of bytes) (program_headers bytes) (entry_of bytes) → ⊥)
+    (entry_of bytes % INSTRUCTION_ALIGNMENT ≢ 0) ⊎ (IsExecutable (base_of bytes) (program_headers bytes) (entry_of bytes) → ⊥)
 -- this is no fault of a file
 HasFault bytes fault.NoMemory = ⊥
 

@@ -1,6 +1,6 @@
 -- What holds of every image, whatever the file was: this is what a loader may rely on.
 use Rattle.std.specs.Prelude.{◌≡◌, ℕ, ◌+◌, ◌-◌, ◌/◌, ◌%◌, ◌<◌, ◌≤◌, true, length}
-use Rattle.abi_base.specs.declared.address_space.TheConstants.{GUEST_BEGIN, PAGE_SIZE}
+use Rattle.abi_base.specs.declared.address_space.TheConstants.{GUEST_BEGIN, PAGE_SIZE, INSTRUCTION_ALIGNMENT}
 use Rattle.std.specs.List.{All, AllPairs, Any, sum_by}
 use Rattle.elf_image.specs.declared.elf.Elf.{Elf}
 use Rattle.elf_image.specs.declared.elf.Segment.{Segment}
@@ -32,5 +32,5 @@ pub record IsSound (elf : Elf) : Type 0 where
   pub each : All IsSoundSegment elf.segments
   pub apart : AllPairs AreApart elf.segments
   pub few : sum_by pages_of elf.segments ≤ 32768
-  pub aligned : elf.entry % 4 ≡ 0
+  pub aligned : elf.entry % INSTRUCTION_ALIGNMENT ≡ 0
   pub runs : Any (λ segment. (segment.prot.exec ≡ true) × HasAddress segment elf.entry) elf.segments

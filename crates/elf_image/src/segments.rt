@@ -6,7 +6,7 @@ ghost use Rattle.elf_image.specs.Segments.{is_load, may_execute, may_write, star
 
 use crate::fault::ElfFault;
 use crate::program_header::ProgramHeader;
-use abi_base::{GUEST_BEGIN, PAGE_SIZE};
+use abi_base::{GUEST_BEGIN, INSTRUCTION_ALIGNMENT, PAGE_SIZE};
 
 // p_type: a segment to be loaded.
 const LOAD: u32 = 1;
@@ -25,6 +25,9 @@ const COMPRESSED: u32 = 1;
 
 // e_flags: the floating-point convention of calls.
 const FLOAT_ABI: u32 = 6;
+
+// Each instruction's address is a multiple of this.
+const ALIGNMENT: u128 = INSTRUCTION_ALIGNMENT as u128;
 
 // Where the program's part of the address space begins.
 const LOWEST: u128 = GUEST_BEGIN as u128;
@@ -199,7 +202,7 @@ fn is_executable(base: u64, headers: &[ProgramHeader], address: u128) -> bool
 fn is_entry(base: u64, headers: &[ProgramHeader], entry: u128) -> bool
     ensures { result ≡ is_entry base headers.now entry }
 {
-    entry % 4 == 0 && is_executable(base, headers, entry)
+    entry % ALIGNMENT == 0 && is_executable(base, headers, entry)
 }
 
 // Whether a header is one of an interpreter.

@@ -2,7 +2,7 @@
 -- file asks for. The names of fields are the gABI's.
 use Rattle.std.specs.Prelude.{◌≡◌, ℕ, ◌+◌, ◌-◌, ◌/◌, ◌%◌, ◌<◌, ◌≤◌, true, false, List, [], ◌∷◌, ◌++◌, length, drop}
 use Rattle.std.specs.Int.{w16, w32, w64, to_le_bytes}
-use Rattle.abi_base.specs.declared.address_space.TheConstants.{GUEST_BEGIN, PAGE_SIZE}
+use Rattle.abi_base.specs.declared.address_space.TheConstants.{GUEST_BEGIN, INSTRUCTION_ALIGNMENT, PAGE_SIZE}
 use Rattle.elf_image.specs.declared.elf.Elf.{Elf}
 use Rattle.elf_image.specs.Fields.{e_type, e_machine, e_entry, e_phoff, e_flags, e_phentsize, e_phnum, program_headers}
 
@@ -13,7 +13,7 @@ use Rattle.elf_image.specs.Fields.{e_type, e_machine, e_entry, e_phoff, e_flags,
 -- passes arguments in floating-point registers
 pub record IsProgram (code : List ℕ) (at flags : ℕ) : Type 0 where
   pub some : 0 < length code
-  pub aligned : at % 4 ≡ 0
+  pub aligned : at % INSTRUCTION_ALIGNMENT ≡ 0
   pub low : GUEST_BEGIN ≤ at
   pub high : at + length code ≤ 0x2000000000
   pub pages : (at + length code + (PAGE_SIZE - 1)) / PAGE_SIZE - at / PAGE_SIZE ≤ 32768

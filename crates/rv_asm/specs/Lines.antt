@@ -1,6 +1,7 @@
 -- The lines of a text: which label each defines, what it stands for, and how many bytes it takes. 32 is the space, 58 the
 -- colon.
 use Rattle.std.specs.Prelude.{ℕ, ◌≡◌, ◌+◌, ◌%◌, ◌==◌, Bool, false, cond, List, [], ◌∷◌, ◌++◌, length, map, take, Option, None, Some, option_map, is_some, is_none, unwrap_or}
+use Rattle.abi_base.specs.declared.address_space.TheConstants.{INSTRUCTION_ALIGNMENT}
 use Rattle.rv_asm.specs.declared.assembly.AsmFault.{AsmFault}
 use Rattle.rv_asm.specs.declared.assembly.AsmFault.TheVariants.{Line, NoMemory}
 use Rattle.rv_syntax.specs.declared.form.Form.{Form}
@@ -66,7 +67,7 @@ size_of line = size_of_content (content_of line)
 unfoldable pub item_at : List (List ℕ × Option ℕ) → ℕ → List ℕ → Form → Option Item
 item_at labels here text form =
     cond (is_directive form) (directive_of form text)
-    (cond (here % 4 == 0) (code_of form labels here text)
+    (cond (here % INSTRUCTION_ALIGNMENT == 0) (code_of form labels here text)
     None)
 
 -- what a line's content stands for; an empty one stands for no bytes

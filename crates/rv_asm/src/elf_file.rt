@@ -4,6 +4,7 @@ ghost use Rattle.elf_image.specs.Checks.{fault_of};
 ghost use Rattle.elf_image.specs.Image.{image};
 ghost use Rattle.rv_asm.specs.ElfFile.{HasHeaders, IsProgram, one_segment, with_sizes, with_file_header, with_program_header, file_bytes};
 
+use abi_base::INSTRUCTION_ALIGNMENT;
 use lists::Bytes;
 use std::alloc::{AllocError, Global};
 
@@ -39,9 +40,6 @@ const READ_EXECUTE: u32 = 5;
 
 // p_offset: the code stands behind the headers.
 const CODE_OFFSET: u64 = 120;
-
-// p_align: addresses are those of instructions, and so is the offset.
-const ALIGNMENT: u64 = 4;
 
 // Puts the last fields of a file's header at the end: the sizes and numbers of headers. `Err` may leave a part of them.
 fn push_sizes(out: &mut Vec<u8>) -> Result<(), AllocError>
@@ -84,7 +82,7 @@ fn push_program_header(out: &mut Vec<u8>, address: u64, file_size: u64) -> Resul
     out.extend_from_slice(&address.to_le_bytes())?;
     out.extend_from_slice(&file_size.to_le_bytes())?;
     out.extend_from_slice(&memory_size.to_le_bytes())?;
-    out.extend_from_slice(&ALIGNMENT.to_le_bytes())
+    out.extend_from_slice(&INSTRUCTION_ALIGNMENT.to_le_bytes())
 }
 
 // The bytes of a file.

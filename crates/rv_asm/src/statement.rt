@@ -9,6 +9,7 @@ ghost use Rattle.rv_asm.specs.Sizes.{size_of_form};
 use crate::directives::{directive, quoted, zeros};
 use crate::instructions::code;
 use crate::piece::Piece;
+use abi_base::INSTRUCTION_ALIGNMENT;
 use rv_syntax::{
     Form, Label, form_of, has_control, is_name, lookup, split_at, trim, without_comment,
 };
@@ -123,7 +124,7 @@ fn piece_at<'a>(
 {
     if is_directive(form) {
         directive(form, operands)
-    } else if here % 4 == 0 {
+    } else if here % INSTRUCTION_ALIGNMENT == 0 {
         code(form, labels, here, operands)
     } else {
         None

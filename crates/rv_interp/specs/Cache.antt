@@ -2,7 +2,7 @@
 use Rattle.std.specs.Prelude.{◌≡◌, ℕ, ◌+◌, ◌%◌, ◌/◌, ◌^◌, ◌<◌, List, length, get_or, false, Some, Ok}
 use Rattle.std.specs.FinMap.{get}
 use Rattle.std.specs.List.{All}
-use Rattle.abi_base.specs.declared.address_space.TheConstants.{PAGE_SIZE}
+use Rattle.abi_base.specs.declared.address_space.TheConstants.{INSTRUCTION_ALIGNMENT, PAGE_SIZE}
 use Rattle.guest_memory.specs.Page.{Page, Pages}
 use Rattle.rv_code.specs.declared.instr.Instr.{Instr}
 use Rattle.rv_code.specs.declared.instr.Op.TheVariants as op
@@ -28,7 +28,7 @@ pub record IsTrueAt (m : Pages) (pc : ℕ) (slot : Slot) : Type 0 where
 
 -- each slot of those from an address on is true of this memory, and the last one is empty
 pub record AreTrueFrom (m : Pages) (base : ℕ) (slots : List Slot) : Type 0 where
-  pub aligned : base % 4 ≡ 0
+  pub aligned : base % INSTRUCTION_ALIGNMENT ≡ 0
   pub each : (place : ℕ) (d : Slot) → place < length slots → IsTrueAt m (address_at base place) (get_or slots place d)
   pub last : (place : ℕ) (d : Slot) → place + 1 ≡ length slots → (get_or slots place d).op ≡ op.Ebreak
 
@@ -41,7 +41,7 @@ AreTrue m regions = All (RegionIsTrue m) regions
 
 -- each region begins at a multiple of 4
 abbrev pub AreAligned : List Region → Type 0
-AreAligned regions = All (λ region. region.base % 4 ≡ 0) regions
+AreAligned regions = All (λ region. region.base % INSTRUCTION_ALIGNMENT ≡ 0) regions
 
 -- the instruction at an address has the slot at this place of a region
 pub record IsPlaceOf (region : Region) (pc at : ℕ) : Type 0 where

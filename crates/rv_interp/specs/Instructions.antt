@@ -1,6 +1,7 @@
 -- What each instruction does (RISC-V unprivileged manual, "RV32I Base Integer Instruction Set", "RV64I", "A" Extension for
 -- Atomic Instructions and "Zifencei").
 use Rattle.std.specs.Prelude.{ℕ, ◌+◌, ◌-◌, ◌%◌, ◌^◌, ◌==◌, cond, slice_index, Option, Some, None, Result, Ok, Err}
+use Rattle.abi_base.specs.declared.address_space.TheConstants.{INSTRUCTION_ALIGNMENT}
 use Rattle.abi_base.specs.Registers.{Registers, with_pc, with_x}
 use Rattle.abi_base.specs.declared.signal.Signal.{Signal}
 use Rattle.abi_base.specs.declared.signal.Signal.TheVariants as signal
@@ -47,7 +48,7 @@ trapped r s = record { outcome = outcome.Trap s; regs = r }
 -- a jump that writes a register: a target that isn't a multiple of 4 is a bus error
 abbrev pub jumped_of : Registers → ℕ → ℕ → ℕ → RegistersStep
 jumped_of r rd value target =
-    cond (target % 4 == 0) (record { outcome = outcome.Done; regs = with_pc (with_x r rd value) target }) (trapped r signal.Bus)
+    cond (target % INSTRUCTION_ALIGNMENT == 0) (record { outcome = outcome.Done; regs = with_pc (with_x r rd value) target }) (trapped r signal.Bus)
 
 -- a jump to a register's number and an immediate, whose lowest bit is cleared
 abbrev pub jump_register_of : Registers → Instr → RegistersStep

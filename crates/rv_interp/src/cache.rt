@@ -12,7 +12,7 @@ use crate::execution::{Outcome, step};
 use crate::regions::Region;
 use crate::reservation::Reservation;
 use crate::runs::{Kept, Place, find, run_regions};
-use abi_base::{PAGE_SIZE, Regs};
+use abi_base::{INSTRUCTION_ALIGNMENT, PAGE_SIZE, Regs};
 use guest_memory::GuestMemory;
 use std::alloc::{AllocError, Global};
 use std::marker::Model;
@@ -30,7 +30,7 @@ const SLOTS_OF_STEP: usize = 64;
 const MOST_AT_ONCE: usize = 1048576;
 
 // How many instructions a page has.
-const SLOTS_OF_PAGE: u64 = PAGE_SIZE / 4;
+const SLOTS_OF_PAGE: u64 = PAGE_SIZE / INSTRUCTION_ALIGNMENT;
 
 /// Instructions of pages that can't be written, by their places in runs of pages of code. Each of them is the one that is at its
 /// address, as long as nothing but turns and writes changes the memory: after a change of a page that can't be written, or of its
@@ -83,7 +83,7 @@ impl Cache {
         requires { AreAligned self.now }
         ensures { IfSome result (IsFound self.now pc) }
     {
-        if pc % 4 != 0 {
+        if pc % INSTRUCTION_ALIGNMENT != 0 {
             return None;
         }
         find(&self.regions, pc)
@@ -177,7 +177,7 @@ impl Cache {
         ensures { (m : Pages) → AreTrue m self.old → AreTrue m self.new }
     {
         let page = pc / PAGE_SIZE;
-        if pc % 4 != 0 || !self.may_look() || !is_code(mem, page) {
+        if pc % INSTRUCTION_ALIGNMENT != 0 || !self.may_look() || !is_code(mem, page) {
             return;
         }
         let (lowest, end) = self.pages_around(page);

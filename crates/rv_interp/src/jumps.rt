@@ -7,7 +7,7 @@ ghost use Rattle.rv_interp.specs.Instructions.{next, done_of, plus_immediate, ju
 
 use crate::execution::Outcome;
 use crate::values::{Condition, is_taken};
-use abi_base::{Regs, Signal};
+use abi_base::{INSTRUCTION_ALIGNMENT, Regs, Signal};
 use rv_code::Instr;
 
 /// The address after the instruction at the pc.
@@ -52,7 +52,7 @@ pub fn jump(regs: &mut Regs, pc: &mut u64, rd: u32, value: u64, target: u64) -> 
     requires { rd < 32 }
     ensures { jumped_of (with_pc regs.old pc.old) rd value target ≡ record { outcome = result; regs = with_pc regs.new pc.new } }
 {
-    if target % 4 != 0 {
+    if target % INSTRUCTION_ALIGNMENT != 0 {
         return Outcome::Trap(Signal::Bus);
     }
     regs.set(rd, value);

@@ -17,7 +17,7 @@ use crate::reservation::Reservation;
 use crate::slot::Slot;
 use crate::values::{AtomicOperation, Condition, loaded_value};
 use crate::width::width;
-use abi_base::{Regs, Signal};
+use abi_base::{INSTRUCTION_ALIGNMENT, Regs, Signal};
 use guest_memory::{GuestMemory, MemFault};
 use rv_code::{Op, alu};
 
@@ -143,7 +143,7 @@ pub fn execute_at(
     held: &mut Reservation,
     slot: &Slot,
 ) -> Outcome
-    requires aligned { base % 4 ≡ 0 }
+    requires aligned { base % INSTRUCTION_ALIGNMENT ≡ 0 }
     requires names { NamesRegisters (instr_of slot.now) }
     ensures exact { execute_of (instr_of slot.now) (machine (with_pc regs.old (address_at base at.old)) mem.old held.old) ≡ record { outcome = result; after = machine (with_pc regs.new (address_at base at.new)) mem.new held.new } }
     ensures unwritable { KeepsUnwritable mem.old mem.new }

@@ -9,7 +9,7 @@ ghost use Rattle.rv_interp.specs.Slots.{address_at, instr_of};
 use crate::execution::Outcome;
 use crate::slot::Slot;
 use crate::values::{Condition, is_taken};
-use abi_base::{Regs, Signal};
+use abi_base::{INSTRUCTION_ALIGNMENT, Regs, Signal};
 
 /// The address of a place.
 #[inline(always)]
@@ -17,7 +17,7 @@ use abi_base::{Regs, Signal};
 pub fn address_at(base: u64, at: u64) -> u64
     ensures { result ≡ address_at base at }
 {
-    base.wrapping_add(at.wrapping_mul(4))
+    base.wrapping_add(at.wrapping_mul(INSTRUCTION_ALIGNMENT))
 }
 
 /// What the first register has.
@@ -63,15 +63,15 @@ pub fn done_at(regs: &mut Regs, base: u64, at: &mut u64, rd: u8, value: u64) -> 
 #[inline(always)]
 #[tactic(auto, using(crate::proofs::PlaceLaws::target_place, crate::proofs::PlaceLaws::target_rest))]
 fn jump_at(regs: &mut Regs, base: u64, at: &mut u64, rd: u8, value: u64, offset: u64) -> Outcome
-    requires aligned { base % 4 ≡ 0 }
+    requires aligned { base % INSTRUCTION_ALIGNMENT ≡ 0 }
     requires rd { rd < 32 }
     ensures { jumped_of (with_pc regs.old (address_at base at.old)) rd value ((base + offset) % 2 ^ 64) ≡ record { outcome = result; regs = with_pc regs.new (address_at base at.new) } }
 {
-    if offset % 4 != 0 {
+    if offset % INSTRUCTION_ALIGNMENT != 0 {
         return Outcome::Trap(Signal::Bus);
     }
     regs.set(u32::from(rd), value);
-    *at = offset / 4;
+    *at = offset / INSTRUCTION_ALIGNMENT;
     Outcome::Done
 }
 
@@ -81,7 +81,7 @@ fn jump_at(regs: &mut Regs, base: u64, at: &mut u64, rd: u8, value: u64, offset:
 fn near(base: u64, at: u64, slot: &Slot) -> u64
     ensures { (base + result) % 2 ^ 64 ≡ plus_immediate (address_at base at) (instr_of slot.now) }
 {
-    at.wrapping_mul(4).wrapping_add(slot.immediate())
+    at.wrapping_mul(INSTRUCTION_ALIGNMENT).wrapping_add(slot.immediate())
 }
 
 // The address after the instruction at a place.
@@ -96,7 +96,7 @@ fn next_at(base: u64, at: u64) -> u64
 /// JAL.
 #[inline(always)]
 pub fn jump_near_at(regs: &mut Regs, base: u64, at: &mut u64, slot: &Slot) -> Outcome
-    requires aligned { base % 4 ≡ 0 }
+    requires aligned { base % INSTRUCTION_ALIGNMENT ≡ 0 }
     requires names { NamesRegisters (instr_of slot.now) }
     ensures { jumped_of (with_pc regs.old (address_at base at.old)) slot.now.rd (next (with_pc regs.old (address_at base at.old))) (plus_immediate (address_at base at.old) (instr_of slot.now)) ≡ record { outcome = result; regs = with_pc regs.new (address_at base at.new) } }
 {
@@ -116,19 +116,19 @@ fn offset_of(base: u64, target: u64) -> u64
 
 /// The place of an address.
 pub fn place_of(base: u64, pc: u64) -> u64
-    requires base { base % 4 ≡ 0 }
-    requires pc { pc % 4 ≡ 0 }
+    requires base { base % INSTRUCTION_ALIGNMENT ≡ 0 }
+    requires pc { pc % INSTRUCTION_ALIGNMENT ≡ 0 }
     ensures place { address_at base result ≡ pc }
     ensures small { result < 2 ^ 62 }
 {
     let offset = offset_of(base, pc);
-    offset / 4
+    offset / INSTRUCTION_ALIGNMENT
 }
 
 /// JALR: the register is read before it is written.
 #[inline(always)]
 pub fn jump_register_at(regs: &mut Regs, base: u64, at: &mut u64, slot: &Slot) -> Outcome
-    requires aligned { base % 4 ≡ 0 }
+    requires aligned { base % INSTRUCTION_ALIGNMENT ≡ 0 }
     requires names { NamesRegisters (instr_of slot.now) }
     ensures { jump_register_of (with_pc regs.old (address_at base at.old)) (instr_of slot.now) ≡ record { outcome = result; regs = with_pc regs.new (address_at base at.new) } }
 {
@@ -147,7 +147,7 @@ pub fn branch_at(
     slot: &Slot,
     condition: Condition,
 ) -> Outcome
-    requires aligned { base % 4 ≡ 0 }
+    requires aligned { base % INSTRUCTION_ALIGNMENT ≡ 0 }
     requires names { NamesRegisters (instr_of slot.now) }
     ensures { branch_of (with_pc regs.old (address_at base at.old)) condition (instr_of slot.now) ≡ record { outcome = result; regs = with_pc regs.new (address_at base at.new) } }
 {

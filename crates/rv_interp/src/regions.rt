@@ -16,7 +16,7 @@ use crate::kept::execute_at;
 use crate::places::{address_at, place_of};
 use crate::reservation::Reservation;
 use crate::slot::{EMPTY, Slot, packed};
-use abi_base::{PAGE_SIZE, Regs};
+use abi_base::{INSTRUCTION_ALIGNMENT, PAGE_SIZE, Regs};
 use guest_memory::{Access, GuestMemory};
 use std::alloc::{AllocError, Global};
 
@@ -156,8 +156,8 @@ impl Region {
     /// The place of the instruction at an address, if it has a slot here.
     #[inline(always)]
     pub fn place(&self, pc: u64) -> Option<u64>
-        requires base { self.now.base % 4 ≡ 0 }
-        requires pc { pc % 4 ≡ 0 }
+        requires base { self.now.base % INSTRUCTION_ALIGNMENT ≡ 0 }
+        requires pc { pc % INSTRUCTION_ALIGNMENT ≡ 0 }
         ensures { IfSome result (IsPlaceOf self.now pc) }
     {
         let at = place_of(self.base, pc);
@@ -189,7 +189,7 @@ impl Region {
         ensures slots { RegionIsTrue mem.old self.old → RegionIsTrue mem.new self.new }
         ensures same { mem.new ≡ mem.old }
     {
-        let first = pc.wrapping_sub(self.base) / 4;
+        let first = pc.wrapping_sub(self.base) / INSTRUCTION_ALIGNMENT;
         for index in 0..DECODED_AT_ONCE {
             if !self.decode(mem, first.wrapping_add(index)) {
                 return;

@@ -12,7 +12,7 @@ ghost use Rattle.rv_interp.specs.Turns.{Does};
 use crate::places::address_at;
 use crate::regions::{Region, run_slots};
 use crate::reservation::Reservation;
-use abi_base::Regs;
+use abi_base::{INSTRUCTION_ALIGNMENT, Regs};
 use guest_memory::GuestMemory;
 
 /// What kept instructions did.
@@ -36,7 +36,7 @@ pub struct Place {
 #[inline(never)]
 pub fn find(regions: &[Region], pc: u64) -> Option<Place>
     requires regions { AreAligned regions.now }
-    requires pc { pc % 4 ≡ 0 }
+    requires pc { pc % INSTRUCTION_ALIGNMENT ≡ 0 }
     ensures { IfSome result (IsFound regions.now pc) }
 {
     for region in 0..regions.len() {
@@ -51,7 +51,7 @@ pub fn find(regions: &[Region], pc: u64) -> Option<Place>
 #[inline(always)]
 fn find_again(regions: &[Region], last: usize, pc: u64) -> Option<Place>
     requires regions { AreAligned regions.now }
-    requires pc { pc % 4 ≡ 0 }
+    requires pc { pc % INSTRUCTION_ALIGNMENT ≡ 0 }
     requires last { last < length regions.now }
     ensures { IfSome result (IsFound regions.now pc) }
 {
