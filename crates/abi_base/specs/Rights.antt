@@ -1,6 +1,7 @@
 use Rattle.std.specs.Prelude.{◌==◌, ◌≡◌, ◌-◌, ◌^◌, ℕ, Bool, List, [], ◌∷◌, codes}
 use Rattle.std.specs.Int.{bit_at}
-use Rattle.std.specs.Int.RustNames.{bit_and}
+use Rattle.std.specs.Int.RustNames.{bit_and, bit_or}
+use Rattle.abi_base.specs.declared.rights.Rights.{Rights}
 
 -- A set of rights is a number: the right with bit k is in it where bit k is 1.
 abbrev pub Has : ℕ → ℕ → Type 0
@@ -13,6 +14,11 @@ meet_of a b = bit_and a b
 -- the rights of the first that the second lacks
 abbrev pub minus_of : ℕ → ℕ → ℕ
 minus_of a b = bit_and a (2 ^ 64 - 1 - b)
+
+-- the rights that are in one of the sets
+abbrev pub union_of : List Rights → ℕ
+union_of [] = 0
+union_of (set ∷ sets) = bit_or set.0 (union_of sets)
 
 -- the first has each right of the second
 abbrev pub has_all : ℕ → ℕ → Bool

@@ -29,6 +29,10 @@ pub use reply::{Answer, Payload, Reply, WordWrite, WordWrites};
 pub use status::Status;
 pub use stream::Stream;
 pub use thread::{Stage, Thread};
+pub use type_rights::{
+    DIRECTORY_RIGHTS, FILE_RIGHTS, OPENED_RIGHTS, PROCESS_RIGHTS, READING_RIGHTS, STREAM_RIGHTS,
+    WRITING_RIGHTS,
+};
 pub use wake::WakeIn;
 pub use who::Who;
 
@@ -49,5 +53,6 @@ mod reply;
 mod status;
 mod stream;
 mod thread;
+mod type_rights;
 mod wake;
 mod who;

@@ -12,14 +12,13 @@ ghost use Rattle.entry_calls.specs.Plans.{change_of, kind_of, new_nodes_of};
 
 use crate::making::make_in;
 use crate::places::{NamePlace, name_at};
-use abi_types::{Bytes, Descriptor, FdStat, NodeKind, ObjId, OpenKind, OpenType, Rights};
+use abi_types::{
+    Bytes, Descriptor, FdStat, NodeKind, OPENED_RIGHTS, ObjId, OpenKind, OpenType, Rights,
+};
 use file_calls::set_size;
 use file_tree::Tree;
 use right_rules::fits;
 use std::alloc::{AllocError, Global};
-
-// What a descriptor of a directory may pass on: its own rights and a file's.
-const DIRECTORY_INHERITING: u64 = 0x11ffff7ff;
 
 /// What is opened, and what is done to the tree for it.
 #[derive(Clone, Copy)]
@@ -75,7 +74,7 @@ impl OpenPlan {
                 id,
                 stat,
                 fits(OpenType::Directory),
-                Rights(DIRECTORY_INHERITING),
+                OPENED_RIGHTS,
             ),
         }
     }

@@ -6,10 +6,12 @@ use Rattle.clock_random.specs.Random.{random_bytes}
 use Rattle.elf_image.specs.Checks.{fault_of}
 use Rattle.tree_model.specs.Changes.{bytes_of}
 use Rattle.abi_base.specs.declared.errno.Errno.TheVariants.{Success}
+use Rattle.abi_types.specs.OpenTypes.{rights_of}
 use Rattle.abi_types.specs.declared.call.Call.TheVariants.{ProcExec, ProcFork}
 use Rattle.abi_types.specs.declared.constants.Constants.{Constants}
 use Rattle.abi_types.specs.declared.descriptor.Descriptor.{Descriptor}
 use Rattle.abi_types.specs.declared.open_kind.OpenKind.TheVariants.{File, Process}
+use Rattle.abi_types.specs.declared.open_type.OpenType.TheVariants as open_type
 use Rattle.abi_types.specs.declared.reply.Answer.TheVariants as answer
 use Rattle.abi_types.specs.declared.reply.Payload.TheVariants.{Child}
 use Rattle.abi_types.specs.declared.reply.Reply.{Reply}
@@ -70,7 +72,7 @@ pub record IsNumbered (p t : ℕ) (own : ProcessState) : Type 0 where
   pub kind : child_kind p own ≡ Process (child_number p own) (p * 2 ^ 32 + (own.counts.objects + 1))
   -- its descriptor of the child has FILE_STAT_FGET and POLL_PROC_TERMINATE, and passes on nothing
   pub descriptor : child_descriptor p own
-      ≡ record { id = p * 2 ^ 32 + (own.counts.objects + 2); base = record { 0 = 0x40080000 }; inheriting = record { 0 = 0 } }
+      ≡ record { id = p * 2 ^ 32 + (own.counts.objects + 2); base = record { 0 = rights_of open_type.Process }; inheriting = record { 0 = 0 } }
   -- the result is the descriptor's number, and the run is told the child's
   pub reply : (fd : ℕ) → forked_reply fd (child_number p own) ≡ record (success fd 0) { payload = Child (child_number p own) }
 

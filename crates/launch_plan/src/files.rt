@@ -6,18 +6,11 @@ ghost use Rattle.launch_plan.specs.Files as spec;
 
 use crate::fault::PlanFault;
 use abi_base::{Grant, GrantTarget, ObjId, Rights};
-use abi_types::NodeKind;
+use abi_types::{DIRECTORY_RIGHTS, FILE_RIGHTS, NodeKind, OPENED_RIGHTS};
 use file_tree::Tree;
 use launch_values::{Node, NodeText, NodeValue};
 use path_lookup::{End, WalkMode};
 use tree_model::ROOT;
-
-// All rights of a file and of a directory, and all that a directory may pass on.
-const FILE: Rights = Rights(0x11c3801ff);
-
-const DIRECTORY: Rights = Rights(0x3eff619);
-
-const OPENED: Rights = Rights(0x11ffff7ff);
 
 // What a pair of the map says.
 #[derive(Clone, Copy)]
@@ -120,8 +113,8 @@ fn whole_of(tree: &Tree, id: ObjId) -> Option<Grant>
     ensures { result ≡ spec.whole_of tree.now id }
 {
     let (base, inheriting) = match tree.node(id)?.kind {
-        NodeKind::File(_) => (FILE, Rights::NONE),
-        NodeKind::Directory => (DIRECTORY, OPENED),
+        NodeKind::File(_) => (FILE_RIGHTS, Rights::NONE),
+        NodeKind::Directory => (DIRECTORY_RIGHTS, OPENED_RIGHTS),
         NodeKind::Link(_) => return None,
     };
     Some(Grant {
