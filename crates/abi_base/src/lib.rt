@@ -1,4 +1,4 @@
-//! The numbers of the host's interface: identifiers, errors, signals, rights, protections and registers, and the
+//! The numbers of the host's interface: identifiers, errors, signals, rights, flags, protections and registers, and the
 //! descriptors that a launch grants.
 //!
 //! CloudABI gives the names. The numbers are this project's profile, in docs/ABI.md.
@@ -8,7 +8,7 @@ pub use address_space::{GUEST_BEGIN, GUEST_END, INSTRUCTION_ALIGNMENT, PAGE_LIMI
 pub use errno::Errno;
 pub use grant::{Grant, GrantList, GrantTarget};
 pub use ids::{ObjId, Pid, Tid, TidList};
-pub use limits::{MOST_ARGDATA, MOST_DESCRIPTORS};
+pub use limits::{MOST_ARGDATA, MOST_DESCRIPTORS, MOST_THREADS};
 pub use prot::Prot;
 pub use regs::Regs;
 pub use rights::Rights;
@@ -16,6 +16,7 @@ pub use signal::Signal;
 
 mod address_space;
 mod errno;
+pub mod flags;
 mod grant;
 mod ids;
 mod limits;

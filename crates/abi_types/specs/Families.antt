@@ -3,6 +3,7 @@ use Rattle.std.specs.Prelude.{◌≡◌, ℕ, Bool, true, false, List, Option, N
 use Rattle.std.specs.Int.RustNames.{bit_and}
 use Rattle.abi_base.specs.declared.errno.Errno.{Errno}
 use Rattle.abi_base.specs.declared.errno.Errno.TheVariants.{Nosys, Success}
+use Rattle.abi_base.specs.declared.flags.TheConstants.{MAP_ANON}
 use Rattle.abi_types.specs.declared.call.Call.{Call}
 use Rattle.abi_types.specs.declared.call.Call.TheVariants as call
 use Rattle.abi_types.specs.declared.family.DescriptorChange.{DescriptorChange}
@@ -91,7 +92,7 @@ fds_of_entry (entry.FileUnlink fd path flags) = (fd, None)
 
 -- the flags of a mapping have 1, which is for one of zeros, with no file
 abbrev pub is_anonymous : ℕ → Bool
-is_anonymous flags = bit_and flags 1 == 1
+is_anonymous flags = bit_and flags MAP_ANON == MAP_ANON
 
 -- a view of mem_map is of a mapping that has a file
 abbrev pub HasFile : FileCall → Type 0

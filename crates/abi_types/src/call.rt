@@ -9,7 +9,8 @@ use abi_base::Errno;
 use abi_structures::{FdStat, FileStat, ThreadAttr};
 use lists::Bytes;
 
-/// Where a path begins that a call treats: a descriptor, and lookup flags, of which 1 is SYMLINK_FOLLOW.
+/// Where a path begins that a call treats: a descriptor, and lookup flags, of which
+/// `LOOKUP_SYMLINK_FOLLOW` is the only one.
 #[derive(Clone, Copy, Debug, PartialEq, Eq)]
 pub struct Lookup {
     pub fd: u32,

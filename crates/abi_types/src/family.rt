@@ -5,6 +5,7 @@ ghost use Rattle.abi_types.specs.Families.{IsOf, fd_of_file, fd_of_offset, fds_o
 use crate::call::{Call, Lookup};
 use crate::place::Place;
 use abi_base::Errno;
+use abi_base::flags::MAP_ANON;
 use abi_structures::{FdStat, FileStat, Subscription, ThreadAttr};
 
 /// What a call does to its process's descriptors.
@@ -231,9 +232,6 @@ pub enum Family<'a> {
     NotBuilt,
 }
 
-// The flag of a mapping that has no file.
-const ANONYMOUS: u32 = 1;
-
 impl FileCall<'_> {
     /// The descriptor.
     pub fn fd(&self) -> u32
@@ -356,7 +354,7 @@ impl Call {
                 fd,
                 offset,
             } => {
-                if *flags & ANONYMOUS == ANONYMOUS {
+                if *flags & MAP_ANON == MAP_ANON {
                     return Family::Zeros(*place);
                 }
                 Family::File(FileCall::MemMap {

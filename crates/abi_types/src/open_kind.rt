@@ -1,8 +1,7 @@
 //! What a descriptor's open is.
 use abi_base::{ObjId, Pid};
 
-/// An open: what the descriptors that share it stand for. Flags are the descriptor's: APPEND 1, DSYNC 2, NONBLOCK 4,
-/// RSYNC 8, SYNC 16.
+/// An open: what the descriptors that share it stand for. Its flags are of those in `flags` whose names begin with `FDFLAG`.
 #[derive(Clone, Copy)]
 pub enum OpenKind {
     /// A node of the file tree that is a file, and the offset at which it is read and written.

@@ -2,6 +2,7 @@
 use Rattle.std.specs.Prelude.{◌≡◌, ◌≢◌, ◌⊎◌, ℕ, bit_and, true, false, List, [], ◌∷◌, ◌++◌, None, Some, IsSome}
 use Rattle.std.specs.FinMap.{get}
 use Rattle.abi_base.specs.declared.errno.Errno.TheVariants.{Success}
+use Rattle.abi_base.specs.declared.flags.TheConstants.{FDSTAT_RIGHTS}
 use Rattle.tree_model.specs.Grants.{MayBegin}
 use Rattle.abi_structures.specs.declared.structures.FdStat.{FdStat}
 use Rattle.abi_types.specs.declared.call.Call.{Call}
@@ -133,11 +134,11 @@ ReplacementsAreEqual =
     (launch : Launch) (front : List Entry) (e : Entry) (rest : List Entry) → MayBegin launch.tree launch.grants → Legal launch (front ++ e ∷ rest)
     → ReplacesAt launch front e
 
--- After an fd_stat_put with RIGHTS (2) that succeeded the descriptor has exactly those of the rights which it had before it that
+-- After an fd_stat_put with RIGHTS that succeeded the descriptor has exactly those of the rights which it had before it that
 -- are asked.
 abbrev pub LowersAt : Launch → List Entry → Entry → Type 0
 LowersAt launch front e =
-    (fd : ℕ) (stat : FdStat) (flags : ℕ) (reply : Reply) → Succeeds e (FdStatPut fd stat flags) reply → bit_and flags 2 ≢ 0
+    (fd : ℕ) (stat : FdStat) (flags : ℕ) (reply : Reply) → Succeeds e (FdStatPut fd stat flags) reply → bit_and flags FDSTAT_RIGHTS ≢ 0
     → IsLowered (held_before launch front e) (held_after launch front e) fd stat
 
 -- So it is at each entry of a legal history.

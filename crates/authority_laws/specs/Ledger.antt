@@ -6,6 +6,7 @@ use Rattle.abi_base.specs.declared.errno.Errno.{Errno}
 use Rattle.abi_base.specs.declared.errno.Errno.TheVariants.{Success}
 use Rattle.abi_base.specs.declared.grant.Grant.{Grant}
 use Rattle.abi_base.specs.declared.signal.Signal.{Signal}
+use Rattle.abi_base.specs.declared.flags.TheConstants.{FDSTAT_RIGHTS}
 use Rattle.abi_structures.specs.declared.structures.FdStat.{FdStat}
 use Rattle.abi_types.specs.declared.reply.Answer.{Answer}
 use Rattle.abi_types.specs.declared.reply.Answer.TheVariants as answer
@@ -214,7 +215,7 @@ lowered_row row n stat = with_held row n (option_map (λ d. lowered_to d stat) (
 -- fd_create2: under its two results stand the two ends of channels that were made last, with all rights of their types.
 -- fd_dup: under the number that is the result stands what stands under the descriptor's.
 -- fd_replace: under the number `to` stands what stands under `from`.
--- fd_stat_put: the rights, which it sets where the flags have RIGHTS (2), are those held that are asked.
+-- fd_stat_put: the rights, which it sets where the flags have RIGHTS, are those held that are asked.
 -- file_open: under the number that is the result stands the open made there, with the rights asked that are of its type.
 -- proc_exec: under each number stands what stood under the one that the call lists in its place, and nothing under any other.
 -- proc_exit: nothing is held.
@@ -227,7 +228,7 @@ granted_row after row (FdClose fd) reply = with_held row fd None
 granted_row after row (FdCreate2 kind) reply = with_held (with_held row reply.r1 (new_held (after.made 1))) reply.r2 (new_held (after.made 0))
 granted_row after row (FdDup fd) reply = with_held row reply.r1 (row fd)
 granted_row after row (FdReplace from to) reply = with_held row to (row from)
-granted_row after row (FdStatPut fd stat flags) reply = if bit_and flags 2 == 0 then row else lowered_row row fd stat
+granted_row after row (FdStatPut fd stat flags) reply = if bit_and flags FDSTAT_RIGHTS == 0 then row else lowered_row row fd stat
 granted_row after row (FileOpen lookup path oflags stat) reply = with_held row reply.r1 (opened_held (after.made 0) stat)
 granted_row after row (ProcExec fd bytes fds) reply = nth_held row fds
 granted_row after row (ProcExit code) reply = no_row

@@ -2,6 +2,7 @@
 use Rattle.std.specs.Prelude.{◌≡◌, ◌≢◌, ◌⊎◌, ⊤, ℕ, bit_and, true, List, [], ◌∷◌, ◌++◌, Option, None, Some, slice_get}
 use Rattle.std.specs.FinMap.{get}
 use Rattle.abi_base.specs.declared.grant.Grant.{Grant}
+use Rattle.abi_base.specs.declared.flags.TheConstants.{FDSTAT_RIGHTS}
 use Rattle.abi_structures.specs.declared.structures.FdStat.{FdStat}
 use Rattle.abi_types.specs.declared.call.Call.TheVariants.{FdCreate2, FdDup, FdReplace, FdStatPut, FileOpen, ProcExec, ProcFork, SockRecv, SockSend}
 use Rattle.abi_types.specs.declared.call.Lookup.{Lookup}
@@ -32,12 +33,12 @@ abbrev pub Copies : Entry → ℕ → ℕ → Type 0
 Copies e from to =
     ((reply : Reply) × Succeeds e (FdDup from) reply × (to ≡ reply.r1)) ⊎ ((reply : Reply) × Succeeds e (FdReplace from to) reply)
 
--- the entry is an fd_stat_put with RIGHTS (2) that succeeded, which asks that the descriptor under fd keep these rights alone
+-- the entry is an fd_stat_put with RIGHTS that succeeded, which asks that the descriptor under fd keep these rights alone
 pub record Lowers (e : Entry) (fd : ℕ) (stat : FdStat) : Type 0 where
   pub flags : ℕ
   pub reply : Reply
   pub succeeds : Succeeds e (FdStatPut fd stat flags) reply
-  pub rights : bit_and flags 2 ≢ 0
+  pub rights : bit_and flags FDSTAT_RIGHTS ≢ 0
 
 -- the entry is a file_open that succeeded from the descriptor under fd, which asks for these rights, and whose result is `to`
 pub record OpensFrom (e : Entry) (fd to : ℕ) (stat : FdStat) : Type 0 where

@@ -1,6 +1,6 @@
 -- The calls that a process makes about its own memory: mem_advise, mem_map, mem_protect, mem_sync and mem_unmap. What
 -- they answer is in the caller's registers and memory alone, and so is what they leave of the memory.
-use Rattle.std.specs.Prelude.{ℕ, ◌≤◌, ◌+◌, ◌-◌, ◌*◌, ◌/◌, ◌%◌, ◌^◌, ◌==◌, ◌&&◌, ◌||◌, not, nat_le, nat_lt, Bool, List, take, Option, Some, None, Result, Ok, if◌then◌else◌}
+use Rattle.std.specs.Prelude.{ℕ, ◌≤◌, ◌+◌, ◌-◌, ◌*◌, ◌/◌, ◌%◌, ◌^◌, ◌==◌, ◌&&◌, ◌||◌, not, nat_le, nat_lt, Bool, List, take, Option, Some, None, Result, Ok, if◌then◌else◌, bit_or}
 use Rattle.abi_base.specs.declared.address_space.TheConstants.{GUEST_BEGIN, GUEST_END, PAGE_SIZE}
 use Rattle.std.specs.Int.RustNames.{bit_and}
 use Rattle.std.specs.FinMap.{len}
@@ -15,6 +15,7 @@ use Rattle.abi_types.specs.declared.place.Place.TheVariants as place
 use Rattle.abi_types.specs.declared.place.Place.TheVariants.{At}
 use Rattle.abi_base.specs.declared.prot.Prot.{Prot}
 use Rattle.abi_base.specs.Registers.{Registers}
+use Rattle.abi_base.specs.declared.flags.TheConstants.{MAP_FIXED, MAP_PRIVATE, MAP_SHARED, MS_ASYNC, MS_SYNC, PROT_EXEC, PROT_READ, PROT_WRITE}
 use Rattle.guest_memory.specs.Changes.{all_there, lowest_gap, mapped, protected, without_pages}
 use Rattle.guest_memory.specs.Mapping.{page_limit}
 use Rattle.guest_memory.specs.Page.{Pages}
@@ -33,13 +34,13 @@ has_bits flags bits = bit_and flags bits == bits
 abbrev pub has_one : ℕ → ℕ → ℕ → Bool
 has_one flags this that = if has_bits flags this then not (has_bits flags that) else has_bits flags that
 
--- the rights that a prot asks for: EXEC is 1, WRITE is 2, READ is 4
+-- the rights that a prot asks for
 abbrev pub prot_of : ℕ → Prot
-prot_of bits = record { read = has_bits bits 4; write = has_bits bits 2; exec = has_bits bits 1 }
+prot_of bits = record { read = has_bits bits PROT_READ; write = has_bits bits PROT_WRITE; exec = has_bits bits PROT_EXEC }
 
 -- no page is both written and executed
 abbrev pub writes_and_executes : ℕ → Bool
-writes_and_executes bits = has_bits bits 3
+writes_and_executes bits = has_bits bits (bit_or PROT_WRITE PROT_EXEC)
 
 -- how many pages so many bytes are, rounded up
 abbrev pub pages_in : ℕ → ℕ
@@ -80,9 +81,9 @@ protect_errno m r =
 abbrev pub mem_protect_of : Pages → Registers → Call
 mem_protect_of m r = Memory MemProtect (protect_errno m r)
 
--- the flags of mem_sync: exactly one of ASYNC, which is 1, and SYNC, which is 4; INVALIDATE, which is 2, may be there too
+-- the flags of mem_sync: exactly one of ASYNC and SYNC; INVALIDATE may be there too
 abbrev pub is_sync : ℕ → Bool
-is_sync flags = nat_le flags 7 && has_one flags 1 4
+is_sync flags = nat_le flags 7 && has_one flags MS_ASYNC MS_SYNC
 
 -- mem_sync answers INVAL for other flags and for an address that isn't a page's
 abbrev pub sync_errno : Pages → Registers → Errno
@@ -108,16 +109,15 @@ mem_unmap_of r = Memory MemUnmap (unmap_errno r)
 
 -- ---- mem_map
 
--- How mem_map is refused by its address, length, prot, flags and offset, with a file or without one. ANON is 1, FIXED is 2,
--- PRIVATE is 4 and SHARED is 8.
+-- How mem_map is refused by its address, length, prot, flags and offset, with a file or without one.
 abbrev pub may_map : ℕ → ℕ → ℕ → ℕ → ℕ → Result (Unit {0}) Errno
 may_map a bytes prot flags offset =
     refuse_when (nat_lt 7 prot || nat_lt 15 flags || bytes == 0) Inval >>= λ _.
-    refuse_when (not (has_one flags 4 8)) Inval >>= λ _.
+    refuse_when (not (has_one flags MAP_PRIVATE MAP_SHARED)) Inval >>= λ _.
     refuse_when (not (is_aligned offset)) Inval >>= λ _.
-    refuse_when (has_bits flags 8) Notsup >>= λ _.
+    refuse_when (has_bits flags MAP_SHARED) Notsup >>= λ _.
     refuse_when (writes_and_executes prot) Notsup >>= λ _.
-    refuse_when (has_bits flags 2 && not (is_aligned a && is_guests a (pages_in bytes))) Inval
+    refuse_when (has_bits flags MAP_FIXED && not (is_aligned a && is_guests a (pages_in bytes))) Inval
 
 -- FIXED: k pages at the address, in place of those that are there; NOBUFS where that would be too many
 abbrev pub place_at : Pages → ℕ → ℕ → Place
@@ -133,7 +133,7 @@ place_in_gap m k = if nat_le (len m + k) page_limit then place_in (lowest_gap m 
 
 -- where k pages go, with these flags
 abbrev pub place_of : Pages → ℕ → ℕ → ℕ → Place
-place_of m a flags k = if has_bits flags 2 then place_at m a k else place_in_gap m k
+place_of m a flags k = if has_bits flags MAP_FIXED then place_at m a k else place_in_gap m k
 
 -- a mem_map that isn't refused: its place and its other arguments
 abbrev pub placed_map : Pages → Registers → Call

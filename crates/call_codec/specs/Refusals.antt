@@ -1,6 +1,6 @@
 -- What the calls about memory answer, in other words than their definitions: for each call a list of conditions, each with
 -- an error. The first condition that holds answers; where none holds, the call succeeds.
-use Rattle.std.specs.Prelude.{◌≡◌, ◌≢◌, ℕ, ◌+◌, ◌*◌, ◌/◌, ◌%◌, ◌^◌, ◌<◌, ◌⊎◌, true, None}
+use Rattle.std.specs.Prelude.{◌≡◌, ◌≢◌, ℕ, ◌+◌, ◌*◌, ◌/◌, ◌%◌, ◌^◌, ◌<◌, ◌⊎◌, true, None, bit_or}
 use Rattle.std.specs.FinMap.{len}
 use Rattle.abi_types.specs.declared.call.Call.{Call}
 use Rattle.abi_types.specs.declared.call.Call.TheVariants.{MemMap, Memory, Refused}
@@ -12,6 +12,7 @@ use Rattle.abi_base.specs.declared.address_space.TheConstants.{GUEST_BEGIN, GUES
 use Rattle.abi_base.specs.declared.errno.Errno.{Errno}
 use Rattle.abi_base.specs.declared.errno.Errno.TheVariants.{Success, Fault, Inval, Nobufs, Notsup}
 use Rattle.abi_base.specs.Registers.{Registers}
+use Rattle.abi_base.specs.declared.flags.TheConstants.{MAP_FIXED, MAP_PRIVATE, MAP_SHARED, MS_ASYNC, MS_SYNC, PROT_EXEC, PROT_WRITE}
 use Rattle.guest_memory.specs.Changes.{lowest_gap, without_pages}
 use Rattle.guest_memory.specs.Mapping.{AreThere}
 use Rattle.guest_memory.specs.Page.{Pages}
@@ -61,21 +62,21 @@ advise_conditions m r =
     (when (LacksPages m (argument r 0) (argument r 1)) Fault
     success)))
 
--- mem_protect: an address, a length and a prot, of which 1 is EXEC, 2 is WRITE and 4 is READ
+-- mem_protect: an address, a length and a prot
 abbrev pub protect_conditions : Pages → Registers → Conditions
 protect_conditions m r =
     when (7 < low (argument r 2)) Inval
     (when (IsMisaligned (argument r 0)) Inval
-    (when (Holds (low (argument r 2)) 3) Notsup
+    (when (Holds (low (argument r 2)) (bit_or PROT_WRITE PROT_EXEC)) Notsup
     (when (LacksPages m (argument r 0) (argument r 1)) Fault
     success)))
 
--- mem_sync: an address, a length and flags, of which 1 is ASYNC, 2 is INVALIDATE and 4 is SYNC
+-- mem_sync: an address, a length and flags
 abbrev pub sync_conditions : Pages → Registers → Conditions
 sync_conditions m r =
     when (7 < low (argument r 2)) Inval
-    (when (Holds (low (argument r 2)) 1 × Holds (low (argument r 2)) 4) Inval
-    (when ((¬ Holds (low (argument r 2)) 1) × (¬ Holds (low (argument r 2)) 4)) Inval
+    (when (Holds (low (argument r 2)) MS_ASYNC × Holds (low (argument r 2)) MS_SYNC) Inval
+    (when ((¬ Holds (low (argument r 2)) MS_ASYNC) × (¬ Holds (low (argument r 2)) MS_SYNC)) Inval
     (when (IsMisaligned (argument r 0)) Inval
     (when (LacksPages m (argument r 0) (argument r 1)) Fault
     success))))
@@ -91,27 +92,26 @@ unmap_conditions r =
 -- mem_map: where the pages go. With FIXED they go to the address, else to the lowest gap
 abbrev pub room_conditions : Pages → ℕ → ℕ → ℕ → Conditions
 room_conditions m a flags k =
-    when (Holds flags 2 × (PAGE_LIMIT < len (without_pages m (a / PAGE_SIZE) k) + k)) Nobufs
-    (when ((¬ Holds flags 2) × (PAGE_LIMIT < len m + k)) Nobufs
-    (when ((¬ Holds flags 2) × (lowest_gap m k ≡ None)) Nobufs
+    when (Holds flags MAP_FIXED × (PAGE_LIMIT < len (without_pages m (a / PAGE_SIZE) k) + k)) Nobufs
+    (when ((¬ Holds flags MAP_FIXED) × (PAGE_LIMIT < len m + k)) Nobufs
+    (when ((¬ Holds flags MAP_FIXED) × (lowest_gap m k ≡ None)) Nobufs
     success))
 
--- mem_map: an address, a length, a prot, flags, a descriptor and an offset. Of the flags 1 is ANON, 2 is FIXED, 4 is PRIVATE
--- and 8 is SHARED. Without ANON the kernel answers what the descriptor lacks before it answers that there is no room.
+-- mem_map: an address, a length, a prot, flags, a descriptor and an offset. Without ANON the kernel answers what the descriptor lacks before it answers that there is no room.
 abbrev pub map_conditions : Pages → Registers → Conditions
 map_conditions m r =
     let a = argument r 0 in let bytes = argument r 1 in let prot = low (argument r 2) in let flags = low (argument r 3) in
     when (7 < prot) Inval
     (when (15 < flags) Inval
     (when (bytes ≡ 0) Inval
-    (when (Holds flags 4 × Holds flags 8) Inval
-    (when ((¬ Holds flags 4) × (¬ Holds flags 8)) Inval
+    (when (Holds flags MAP_PRIVATE × Holds flags MAP_SHARED) Inval
+    (when ((¬ Holds flags MAP_PRIVATE) × (¬ Holds flags MAP_SHARED)) Inval
     (when (IsMisaligned (argument r 5)) Inval
-    (when (Holds flags 8) Notsup
-    (when (Holds prot 3) Notsup
-    (when (Holds flags 2 × IsMisaligned a) Inval
-    (when (Holds flags 2 × (a < GUEST_BEGIN)) Inval
-    (when (Holds flags 2 × (GUEST_END < a + PAGE_SIZE * pages_in bytes)) Inval
+    (when (Holds flags MAP_SHARED) Notsup
+    (when (Holds prot (bit_or PROT_WRITE PROT_EXEC)) Notsup
+    (when (Holds flags MAP_FIXED × IsMisaligned a) Inval
+    (when (Holds flags MAP_FIXED × (a < GUEST_BEGIN)) Inval
+    (when (Holds flags MAP_FIXED × (GUEST_END < a + PAGE_SIZE * pages_in bytes)) Inval
     (room_conditions m a flags (pages_in bytes))))))))))))
 
 -- The calls are answered as listed.

@@ -5,26 +5,14 @@ ghost use Rattle.guest_memory.specs.Ranges.{IsPageAddress};
 
 use abi_base::{GUEST_BEGIN, GUEST_END, PAGE_LIMIT, PAGE_SIZE};
 use abi_types::{Call, CallNumber, Errno, Place, Regs};
+use abi_types::flags::{
+    MAP_FIXED, MAP_PRIVATE, MAP_SHARED, MS_ASYNC, MS_SYNC, PROT_EXEC, PROT_WRITE,
+};
 use codec_arguments::{low, refuse_when};
 use guest_memory::GuestMemory;
 
 // The bits of a prot that are for a writable page that can be executed.
-const WRITE_AND_EXEC: u32 = 3;
-
-// The flag of a mapping at the address that the call names.
-const FIXED: u32 = 2;
-
-// The flag of a mapping that others don't see.
-const PRIVATE: u32 = 4;
-
-// The flag of a mapping that others see.
-const SHARED: u32 = 8;
-
-// The flag of a write to the file that comes later.
-const ASYNC: u32 = 1;
-
-// The flag of a write to the file that comes first.
-const SYNC: u32 = 4;
+const WRITE_AND_EXEC: u32 = PROT_WRITE | PROT_EXEC;
 
 /// Whether the flags hold each of these bits.
 pub fn has_bits(flags: u32, bits: u32) -> bool
@@ -121,7 +109,7 @@ pub fn mem_sync(regs: &Regs, memory: &GuestMemory) -> Call
 {
     let at = regs.get(10);
     let flags = low(regs.get(12));
-    let errno = if flags <= 7 && has_one(flags, ASYNC, SYNC) && is_aligned(at) {
+    let errno = if flags <= 7 && has_one(flags, MS_ASYNC, MS_SYNC) && is_aligned(at) {
         if_mapped(memory, at, regs.get(11))
     } else {
         Errno::Inval
@@ -160,12 +148,12 @@ fn check_map(at: u64, bytes: u64, prot: u32, flags: u32, offset: u64) -> Result<
     ensures { result ≡ may_map at bytes prot flags offset }
 {
     refuse_when(prot > 7 || flags > 15 || bytes == 0, Errno::Inval)?;
-    refuse_when(!has_one(flags, PRIVATE, SHARED), Errno::Inval)?;
+    refuse_when(!has_one(flags, MAP_PRIVATE, MAP_SHARED), Errno::Inval)?;
     refuse_when(!is_aligned(offset), Errno::Inval)?;
-    refuse_when(has_bits(flags, SHARED), Errno::Notsup)?;
+    refuse_when(has_bits(flags, MAP_SHARED), Errno::Notsup)?;
     refuse_when(has_bits(prot, WRITE_AND_EXEC), Errno::Notsup)?;
     let placed = is_aligned(at) && is_guests(at, pages_in(bytes));
-    refuse_when(has_bits(flags, FIXED) && !placed, Errno::Inval)
+    refuse_when(has_bits(flags, MAP_FIXED) && !placed, Errno::Inval)
 }
 
 // Where so many pages go at the address that FIXED names, in place of those that are there.
@@ -207,7 +195,7 @@ pub fn mem_map(regs: &Regs, memory: &GuestMemory) -> Result<Call, Errno>
     let offset = regs.get(15);
     check_map(at, length, prot, flags, offset)?;
     let pages = pages_in(length);
-    let place = if has_bits(flags, FIXED) {
+    let place = if has_bits(flags, MAP_FIXED) {
         place_at(memory, at, pages)
     } else {
         place_in_gap(memory, pages)

@@ -20,6 +20,7 @@ use crate::messages::{put_received, put_sent};
 use crate::output::{content, put_content, put_payload, put_words};
 use abi_base::{GUEST_END, PAGE_SIZE};
 use abi_types::{Answer, Call, CallNumber, Errno, Place, Prot, Regs, Reply};
+use abi_types::flags::{PROT_EXEC, PROT_READ, PROT_WRITE};
 use codec_arguments::low;
 use guest_memory::{GuestMemory, Room};
 
@@ -117,9 +118,9 @@ fn prot_of(bits: u32) -> Prot
     ensures { result ≡ prot_of bits }
 {
     Prot {
-        read: has_bits(bits, 4),
-        write: has_bits(bits, 2),
-        exec: has_bits(bits, 1),
+        read: has_bits(bits, PROT_READ),
+        write: has_bits(bits, PROT_WRITE),
+        exec: has_bits(bits, PROT_EXEC),
     }
 }
 

@@ -20,27 +20,18 @@ use crate::kept::Channels;
 use crate::letting_go::{MOST_CARRIED, NOTHING, check, let_go_all};
 use abi_base::MOST_DESCRIPTORS;
 use abi_types::{Answer, Bytes, Errno, FdList, ObjId, OpenKind, Payload, WordWrites};
+use abi_types::flags::{FDFLAG_NONBLOCK, SOCK_RECV_FDS_TRUNCATED, SOCK_RECV_PEEK, SOCK_RECV_WAITALL};
 use channels::Channel;
 use fd_table::FdTable;
 use object_store::Objects;
 use right_rules::{refused, success_with};
 use std::alloc::{AllocError, Global};
 
-// Flags: calls on an end don't wait; a receive takes nothing; a receive waits for all bytes; more descriptors came than there was
-// room for.
-const NONBLOCK: u16 = 4;
-
-const PEEK: u16 = 4;
-
-const WAITALL: u16 = 16;
-
-const FDS_TRUNCATED: u16 = 1;
-
 /// What a call on an end with these flags comes to where it can't go on: its thread waits, or it is AGAIN.
 pub(crate) fn waits_unless(flags: u16) -> Answer
     ensures { result ≡ (waits_unless (is_nonblocking flags)).answer }
 {
-    if flags & NONBLOCK != 0 {
+    if flags & FDFLAG_NONBLOCK != 0 {
         Answer::Reply(refused(Errno::Again))
     } else {
         Answer::Parked(WordWrites::Zero)
@@ -148,7 +139,7 @@ pub(crate) fn must_wait(channel: &Channel, asked: &Asked) -> bool
     ensures { result ≡ must_wait_by asked.now.flags asked.now.length channel.now }
 {
     let length = asked.length as usize;
-    let all = asked.flags & WAITALL != 0;
+    let all = asked.flags & SOCK_RECV_WAITALL != 0;
     channel.must_wait(length) || (all && channel.must_wait_for_all(length))
 }
 
@@ -209,7 +200,7 @@ fn take(
     let mut numbers = FdList::new(alloc);
     install(table, &fds[..kept], &mut numbers)?;
     draw(objects, channels, id, &mut out, kept);
-    let flags = if kept < carried { FDS_TRUNCATED } else { 0 };
+    let flags = if kept < carried { SOCK_RECV_FDS_TRUNCATED } else { 0 };
     Ok(given(out, numbers, flags))
 }
 
@@ -244,7 +235,7 @@ pub(crate) fn receive(
     if must_wait(channel, asked) {
         return Ok(waits_unless(socket.flags));
     }
-    if asked.flags & PEEK != 0 {
+    if asked.flags & SOCK_RECV_PEEK != 0 {
         return peek(alloc, channel, asked.length as usize);
     }
     take(alloc, table, objects, channels, socket.reads, asked)

@@ -11,6 +11,7 @@ ghost use Rattle.maps.specs.Maps.{number};
 use crate::kept::Channels;
 use crate::letting_go::{MOST_CARRIED, NOTHING};
 use abi_types::{Answer, Descriptor, Errno, ObjId, Payload, WordWrites};
+use abi_types::flags::FDFLAG_NONBLOCK;
 use fd_table::FdTable;
 use object_store::Objects;
 use right_rules::{refused, success, success_with};
@@ -18,9 +19,6 @@ use std::alloc::AllocError;
 
 /// An open that is held as often isn't sent any more. No run gets there.
 const MOST_HOLDERS: u64 = (1 << 62) - 64;
-
-/// The flag of an open whose calls don't wait.
-const NONBLOCK: u16 = 4;
 
 /// The channel that an end writes, and the end's flags.
 #[derive(Clone, Copy)]
@@ -42,7 +40,7 @@ pub(crate) enum Sending {
 pub(crate) fn is_nonblocking(flags: u16) -> bool
     ensures { result ≡ is_nonblocking flags }
 {
-    flags & NONBLOCK != 0
+    flags & FDFLAG_NONBLOCK != 0
 }
 
 /// The answer of fd_write.

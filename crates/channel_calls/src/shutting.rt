@@ -12,14 +12,10 @@ ghost use Rattle.maps.specs.Maps.{number};
 use crate::kept::Channels;
 use crate::letting_go::{MOST_CARRIED, NOTHING, let_go_all};
 use abi_types::{Answer, Errno, ObjId, OpenKind};
+use abi_types::flags::{SHUT_RD, SHUT_WR};
 use channels::Side;
 use object_store::Objects;
 use right_rules::{refused, success};
-
-/// The directions that a call shuts: what an end receives, and what it sends.
-const RD: u32 = 1;
-
-const WR: u32 = 2;
 
 /// Shuts an end for what comes, which is let go, or for what it sends, or both. Takes no memory.
 pub(crate) fn shut(
@@ -62,7 +58,7 @@ fn shut_end(
 {
     let receives = shuts_reader(reads, writes, how);
     shut_side(objects, channels, reads, Side::Reader, receives);
-    shut_side(objects, channels, writes, Side::Writer, how & WR != 0);
+    shut_side(objects, channels, writes, Side::Writer, how & SHUT_WR != 0);
     Answer::Reply(success(0, 0))
 }
 
@@ -70,7 +66,7 @@ fn shut_end(
 fn shuts_reader(reads: ObjId, writes: ObjId, how: u32) -> bool
     ensures { result ≡ (not (bit_and how 1 == 0) && not (not (bit_and how 2 == 0) && (reads == writes))) }
 {
-    how & RD != 0 && !(how & WR != 0 && reads.0 == writes.0)
+    how & SHUT_RD != 0 && !(how & SHUT_WR != 0 && reads.0 == writes.0)
 }
 
 // Shuts one side of a channel, where that is wanted and there is one. Descriptors that no longer wait in it then are let go.

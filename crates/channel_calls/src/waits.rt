@@ -11,10 +11,8 @@ ghost use Rattle.kernel_model.specs.Outcome.{is_parked};
 use crate::kept::Channels;
 use crate::sending::{Outgoing, Sending, is_nonblocking, ready};
 use abi_types::{Call, ObjId, OffsetCall, OpenKind, SocketCall};
+use abi_types::flags::SOCK_RECV_WAITALL;
 use fd_table::FdTable;
-
-/// The flag of a receive that waits for all the bytes.
-const WAITALL: u16 = 16;
 
 /// Whether fd_read or fd_write on an end would wait. Takes no memory.
 pub fn end_waits(channels: &Channels, kind: &OpenKind, call: OffsetCall<'_>) -> bool
@@ -62,7 +60,7 @@ pub fn socket_waits(
     };
     match call {
         SocketCall::SockRecv { length, flags, .. } => {
-            receive_waits(channels, Some(*reads), *mode, length, flags & WAITALL != 0)
+            receive_waits(channels, Some(*reads), *mode, length, flags & SOCK_RECV_WAITALL != 0)
         }
         SocketCall::SockSend { bytes, fds, .. } => {
             let end = Outgoing {

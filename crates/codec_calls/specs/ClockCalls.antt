@@ -3,6 +3,7 @@ use Rattle.std.specs.Prelude.{ℕ, Bool, not, ◌==◌, ◌||◌, Result, Ok}
 use Rattle.abi_base.specs.declared.errno.Errno.{Errno}
 use Rattle.abi_base.specs.declared.errno.Errno.TheVariants.{Inval, Notsup}
 use Rattle.abi_base.specs.Registers.{Registers}
+use Rattle.abi_base.specs.declared.flags.TheConstants.{CLOCK_MONOTONIC, CLOCK_REALTIME}
 use Rattle.abi_types.specs.declared.call.Call.{Call}
 use Rattle.abi_types.specs.declared.call.Call.TheVariants.{ClockResGet, ClockTimeGet}
 use Rattle.codec_arguments.specs.Arguments.{argument, low}
@@ -14,7 +15,7 @@ is_cpu_clock clock = clock == 2 || clock == 4
 
 -- a clock of the time that passes
 abbrev pub is_time_clock : ℕ → Bool
-is_time_clock clock = clock == 1 || clock == 3
+is_time_clock clock = clock == CLOCK_MONOTONIC || clock == CLOCK_REALTIME
 
 -- the clock can be asked
 abbrev pub clock_known : ℕ → Result (Unit {0}) Errno

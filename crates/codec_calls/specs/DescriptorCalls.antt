@@ -3,6 +3,7 @@ use Rattle.std.specs.Prelude.{ℕ, ◌^◌, Bool, not, ◌==◌, ◌&&◌, ◌||
 use Rattle.abi_base.specs.declared.errno.Errno.{Errno}
 use Rattle.abi_base.specs.declared.errno.Errno.TheVariants.{Inval, Notsup}
 use Rattle.abi_base.specs.Registers.{Registers}
+use Rattle.abi_base.specs.declared.flags.TheConstants.{FILETYPE_CHARACTER_DEVICE, FILETYPE_DIRECTORY, FILETYPE_FIFO, FILETYPE_PROCESS, FILETYPE_REGULAR_FILE, FILETYPE_SHARED_MEMORY, FILETYPE_SOCKET_DGRAM, FILETYPE_SOCKET_STREAM, FILETYPE_SYMBOLIC_LINK, WHENCE_CUR, WHENCE_SET}
 use Rattle.abi_structures.specs.declared.structures.FdStat.{FdStat}
 use Rattle.abi_types.specs.declared.call.Call.{Call}
 use Rattle.abi_types.specs.declared.call.Call.TheVariants.{FdClose, FdCreate2, FdDatasync, FdDup, FdPread, FdPwrite, FdRead, FdReplace, FdSeek, FdStatGet, FdStatPut, FdSync, FdWrite}
@@ -14,7 +15,7 @@ use Rattle.codec_arguments.specs.Reading.{◌>>=◌, refuse_when}
 use Rattle.codec_arguments.specs.Structures.{fdstat_at}
 use Rattle.codec_arguments.specs.declared.ranges.TheConstants.{MOST_IOVECS}
 use Rattle.codec_calls.specs.Flags.{has_unknown}
-use Rattle.codec_calls.specs.declared.descriptor_calls.TheConstants.{FIFO, KNOWN_FLAGS, KNOWN_RIGHTS, SOCKET_STREAM}
+use Rattle.codec_calls.specs.declared.descriptor_calls.TheConstants.{KNOWN_FLAGS, KNOWN_RIGHTS}
 
 -- fd_close, fd_datasync, fd_dup and fd_sync: a descriptor
 abbrev pub fd_close_of : Registers → Call
@@ -35,11 +36,12 @@ fd_replace_of r = FdReplace (low (argument r 0)) (low (argument r 1))
 
 -- ---- making opens
 
--- a type of file: CHARACTER_DEVICE 17, DIRECTORY 32, FIFO 48, PROCESS 80, REGULAR_FILE 96, SHARED_MEMORY 112,
--- SOCKET_DGRAM 128, SOCKET_STREAM 130, SYMBOLIC_LINK 144
+-- a type of file
 abbrev pub is_file_type : ℕ → Bool
 is_file_type kind =
-    kind == 17 || kind == 32 || kind == 48 || kind == 80 || kind == 96 || kind == 112 || kind == 128 || kind == 130 || kind == 144
+    kind == FILETYPE_CHARACTER_DEVICE || kind == FILETYPE_DIRECTORY || kind == FILETYPE_FIFO
+    || kind == FILETYPE_PROCESS || kind == FILETYPE_REGULAR_FILE || kind == FILETYPE_SHARED_MEMORY
+    || kind == FILETYPE_SOCKET_DGRAM || kind == FILETYPE_SOCKET_STREAM || kind == FILETYPE_SYMBOLIC_LINK
 
 -- the error for a type of which a call makes nothing: NOTSUP for a type of file, and else INVAL
 abbrev pub unmade : ℕ → Errno
@@ -51,7 +53,7 @@ fd_create1_of r = unmade (low (argument r 0))
 
 -- a type of opens that are made in pairs: a pipe or a pair of streams
 abbrev pub is_pair : ℕ → Bool
-is_pair kind = kind == FIFO || kind == SOCKET_STREAM
+is_pair kind = kind == FILETYPE_FIFO || kind == FILETYPE_SOCKET_STREAM
 
 -- fd_create2: a type of file
 abbrev pub fd_create2_of : Registers → Result Call Errno
@@ -99,12 +101,12 @@ fd_write_of m r =
     written_in m (argument r 1) (argument r 2) >>= λ bytes.
     Ok (FdWrite (low (argument r 0)) bytes)
 
--- fd_seek: a descriptor, an offset, and from where on it counts: from the place (1), from the end (2), or from the start (3), as
--- the file's new offset
+-- fd_seek: a descriptor, an offset, and from where on it counts: from the place, from the end, or from the start, as the file's
+-- new offset
 abbrev pub fd_seek_of : Registers → Result Call Errno
 fd_seek_of r =
-    refuse_when (not (nat_le 1 (low (argument r 2)) && nat_le (low (argument r 2)) 3)) Inval >>= λ _.
-    refuse_when (low (argument r 2) == 3 && is_beyond (argument r 1)) Inval >>= λ _.
+    refuse_when (not (nat_le WHENCE_CUR (low (argument r 2)) && nat_le (low (argument r 2)) WHENCE_SET)) Inval >>= λ _.
+    refuse_when (low (argument r 2) == WHENCE_SET && is_beyond (argument r 1)) Inval >>= λ _.
     Ok (FdSeek (low (argument r 0)) (argument r 1) (low (argument r 2)))
 
 -- ---- a descriptor's state
@@ -123,7 +125,7 @@ asks_unknown stat =
 -- fd_stat_put: a descriptor, the address of a state, and what of it is set: its flags (1), its rights (2), or both (3)
 abbrev pub fd_stat_put_of : Pages → Registers → Result Call Errno
 fd_stat_put_of m r =
-    refuse_when (not (nat_le 1 (low (argument r 2)) && nat_le (low (argument r 2)) 3)) Inval >>= λ _.
+    refuse_when (not (nat_le WHENCE_CUR (low (argument r 2)) && nat_le (low (argument r 2)) WHENCE_SET)) Inval >>= λ _.
     fdstat_at m (argument r 1) >>= λ stat.
     refuse_when (asks_unknown stat) Inval >>= λ _.
     Ok (FdStatPut (low (argument r 0)) stat (low (argument r 2)))

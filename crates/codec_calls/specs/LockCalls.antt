@@ -1,16 +1,16 @@
 -- The calls that name a lock or a condition variable. Such an address is a multiple of 4, and its word may be read and
--- written. Its scope is PRIVATE, which is 4; SHARED, which is 8, isn't supported.
+-- written. Its scope is PRIVATE; SHARED isn't supported.
 use Rattle.std.specs.Prelude.{ℕ, ◌%◌, Bool, not, ◌==◌, Result, Ok}
 use Rattle.abi_base.specs.declared.errno.Errno.{Errno}
 use Rattle.abi_base.specs.declared.errno.Errno.TheVariants.{Inval, Notsup}
 use Rattle.abi_base.specs.Registers.{Registers}
+use Rattle.abi_base.specs.declared.flags.TheConstants.{SCOPE_PRIVATE, SCOPE_SHARED}
 use Rattle.abi_types.specs.declared.call.Call.{Call}
 use Rattle.abi_types.specs.declared.call.Call.TheVariants.{CondvarSignal, LockUnlock, ThreadExit}
 use Rattle.guest_memory.specs.Page.{Pages}
 use Rattle.codec_arguments.specs.Arguments.{argument, low}
 use Rattle.codec_arguments.specs.Bytes.{word_at}
 use Rattle.codec_arguments.specs.Reading.{◌>>=◌, refuse_when}
-use Rattle.codec_calls.specs.declared.lock_calls.TheConstants.{PRIVATE, SHARED}
 
 -- an address that no lock and no condition variable has
 abbrev pub is_misaligned : ℕ → Bool
@@ -19,8 +19,8 @@ is_misaligned a = not (a % 4 == 0)
 -- the scope is one that is supported
 abbrev pub scope_known : ℕ → Result (Unit {0}) Errno
 scope_known scope =
-    refuse_when (scope == SHARED) Notsup >>= λ _.
-    refuse_when (not (scope == PRIVATE)) Inval
+    refuse_when (scope == SCOPE_SHARED) Notsup >>= λ _.
+    refuse_when (not (scope == SCOPE_PRIVATE)) Inval
 
 -- the word at an address of a scope
 abbrev pub locked_at : Pages → ℕ → ℕ → Result ℕ Errno

@@ -22,7 +22,7 @@ abbrev pub received_room : Pages → RecvIn → Result ℕ Errno
 received_room m given = if nat_le given.iovs_count MOST_IOVECS then room_in m given.iovs given.iovs_count else Ok 0
 
 -- sock_recv: a descriptor, the address of where the message goes, and the address for what was received. At most 16
--- descriptors come, so no more of the room for them is looked at. PEEK is 4, WAITALL is 16
+-- descriptors come, so no more of the room for them is looked at.
 abbrev pub sock_recv_of : Pages → Registers → Result Call Errno
 sock_recv_of m r =
     recv_in_at m (argument r 1) >>= λ given.

@@ -3,6 +3,7 @@ ghost use Rattle.std.specs.Prelude.{◌≡◌};
 ghost use Rattle.codec_calls.specs.ClockCalls.{clock_known, clock_res_get_of, clock_time_get_of, is_cpu_clock, is_time_clock};
 
 use abi_types::{Call, Errno, Regs};
+use abi_types::flags::{CLOCK_MONOTONIC, CLOCK_REALTIME};
 use codec_arguments::{low, refuse_when};
 
 /// Whether a clock is one of a processor's time: 2 or 4.
@@ -16,7 +17,7 @@ pub fn is_cpu_clock(clock: u32) -> bool
 pub fn is_time_clock(clock: u32) -> bool
     ensures { result ≡ is_time_clock clock }
 {
-    clock == 1 || clock == 3
+    clock == CLOCK_MONOTONIC || clock == CLOCK_REALTIME
 }
 
 // Whether a clock can be asked: NOTSUP for one of a processor's time, INVAL for one that isn't known.

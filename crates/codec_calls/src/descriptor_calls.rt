@@ -6,7 +6,13 @@ ghost use Rattle.codec_calls.specs.DescriptorCalls.{fd_pread_of, fd_pwrite_of, f
 ghost use Rattle.codec_calls.specs.DescriptorCalls.{fd_stat_put_of, fd_sync_of, fd_write_of, has_many, is_beyond, is_file_type, is_pair, unmade};
 
 use crate::flags::has_unknown;
-use abi_types::{Call, Errno, FdStat, Regs};
+use abi_types::{Call, Errno, FdStat, OPENED_RIGHTS, PROCESS_RIGHTS, Regs, STREAM_RIGHTS};
+use abi_types::flags::{
+    FDFLAG_APPEND, FDFLAG_DSYNC, FDFLAG_NONBLOCK, FDFLAG_RSYNC, FDFLAG_SYNC,
+    FILETYPE_CHARACTER_DEVICE, FILETYPE_DIRECTORY, FILETYPE_FIFO, FILETYPE_PROCESS,
+    FILETYPE_REGULAR_FILE, FILETYPE_SHARED_MEMORY, FILETYPE_SOCKET_DGRAM, FILETYPE_SOCKET_STREAM,
+    FILETYPE_SYMBOLIC_LINK, WHENCE_CUR, WHENCE_SET,
+};
 use codec_arguments::{
     ArgumentFault, MOST_IOVECS, check_writable, low, read_fdstat, read_room, read_written,
     refuse_when,
@@ -14,20 +20,12 @@ use codec_arguments::{
 use guest_memory::GuestMemory;
 use std::alloc::Global;
 
-/// The type of a pipe's ends.
-pub const FIFO: u32 = 48;
-
-/// The type of a stream's ends.
-pub const SOCKET_STREAM: u32 = 130;
-
-/// The flags of an open that there are: APPEND 1, DSYNC 2, NONBLOCK 4, RSYNC 8, SYNC 16.
-pub const KNOWN_FLAGS: u32 = 31;
+/// The flags of an open that there are.
+pub const KNOWN_FLAGS: u32 =
+    (FDFLAG_APPEND | FDFLAG_DSYNC | FDFLAG_NONBLOCK | FDFLAG_RSYNC | FDFLAG_SYNC) as u32;
 
 /// The bits of all rights: 0 to 10, 12 to 28, 30, 32 and 39.
-pub const KNOWN_RIGHTS: u64 = 0x81_5fff_f7ff;
-
-// From where on fd_seek's offset counts: from the file's start.
-const SET: u32 = 3;
+pub const KNOWN_RIGHTS: u64 = OPENED_RIGHTS.0 | STREAM_RIGHTS.0 | PROCESS_RIGHTS.0;
 
 /// fd_close: a descriptor.
 pub fn fd_close(regs: &Regs) -> Call
@@ -79,7 +77,15 @@ pub fn fd_replace(regs: &Regs) -> Call
 fn is_file_type(kind: u32) -> bool
     ensures { result ≡ is_file_type kind }
 {
-    matches!(kind, 17 | 32 | 48 | 80 | 96 | 112 | 128 | 130 | 144)
+    kind == u32::from(FILETYPE_CHARACTER_DEVICE)
+        || kind == u32::from(FILETYPE_DIRECTORY)
+        || kind == u32::from(FILETYPE_FIFO)
+        || kind == u32::from(FILETYPE_PROCESS)
+        || kind == u32::from(FILETYPE_REGULAR_FILE)
+        || kind == u32::from(FILETYPE_SHARED_MEMORY)
+        || kind == u32::from(FILETYPE_SOCKET_DGRAM)
+        || kind == u32::from(FILETYPE_SOCKET_STREAM)
+        || kind == u32::from(FILETYPE_SYMBOLIC_LINK)
 }
 
 // The error for a type of which a call makes nothing.
@@ -104,7 +110,7 @@ pub fn fd_create1(regs: &Regs) -> Errno
 fn is_pair(kind: u32) -> bool
     ensures { result ≡ is_pair kind }
 {
-    kind == FIFO || kind == SOCKET_STREAM
+    kind == u32::from(FILETYPE_FIFO) || kind == u32::from(FILETYPE_SOCKET_STREAM)
 }
 
 /// fd_create2: a type of file. NOTSUP for one but FIFO and SOCKET_STREAM, and INVAL for no type of file.
@@ -199,8 +205,8 @@ pub fn fd_seek(regs: &Regs) -> Result<Call, Errno>
 {
     let offset = regs.get(11);
     let whence = low(regs.get(12));
-    refuse_when(!(1 <= whence && whence <= 3), Errno::Inval)?;
-    refuse_when(whence == SET && is_beyond(offset), Errno::Inval)?;
+    refuse_when(!(WHENCE_CUR <= whence && whence <= WHENCE_SET), Errno::Inval)?;
+    refuse_when(whence == WHENCE_SET && is_beyond(offset), Errno::Inval)?;
     Ok(Call::FdSeek {
         fd: low(regs.get(10)),
         offset,

@@ -3,14 +3,9 @@ ghost use Rattle.std.specs.Prelude.{◌≡◌};
 ghost use Rattle.codec_calls.specs.LockCalls.{condvar_signal_of, is_misaligned, lock_unlock_of, locked_at, scope_known, thread_exit_of};
 
 use abi_types::{Call, Errno, Regs};
+use abi_types::flags::{SCOPE_PRIVATE, SCOPE_SHARED};
 use codec_arguments::{low, read_word, refuse_when};
 use guest_memory::GuestMemory;
-
-/// The scope of what one process uses.
-pub const PRIVATE: u32 = 4;
-
-/// The scope of what several processes use.
-pub const SHARED: u32 = 8;
 
 /// Whether no lock and no condition variable has an address, since it isn't a multiple of 4.
 pub fn is_misaligned(at: u64) -> bool
@@ -23,8 +18,8 @@ pub fn is_misaligned(at: u64) -> bool
 pub fn check_scope(scope: u32) -> Result<(), Errno>
     ensures { result ≡ scope_known scope }
 {
-    refuse_when(scope == SHARED, Errno::Notsup)?;
-    refuse_when(scope != PRIVATE, Errno::Inval)
+    refuse_when(scope == SCOPE_SHARED, Errno::Notsup)?;
+    refuse_when(scope != SCOPE_PRIVATE, Errno::Inval)
 }
 
 // The word at an address of a scope: INVAL for an address that isn't a multiple of 4, the scope's refusals, FAULT for a word

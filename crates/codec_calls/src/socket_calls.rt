@@ -5,6 +5,7 @@ ghost use Rattle.codec_calls.specs.SocketCalls.{lacks_byte, received_room, sent_
 
 use crate::flags::has_unknown;
 use abi_types::{Bytes, Call, Errno, FdList, RecvIn, Regs, SendIn};
+use abi_types::flags::{SOCK_RECV_PEEK, SOCK_RECV_WAITALL};
 use codec_arguments::{
     ArgumentFault, MOST_IOVECS, check_writable, low, read_descriptors, read_recv_in, read_room,
     read_send_in, read_written, refuse_when,
@@ -15,8 +16,8 @@ use std::alloc::Global;
 /// The most descriptors that are sent with a message.
 pub const MOST_SENT_DESCRIPTORS: u64 = 16;
 
-/// The flags of sock_recv that there are: PEEK 4 and WAITALL 16.
-pub const RECEIVE_FLAGS: u32 = 20;
+/// The flags of sock_recv that there are.
+pub const RECEIVE_FLAGS: u32 = (SOCK_RECV_PEEK | SOCK_RECV_WAITALL) as u32;
 
 // The room of an iovec array in memory; 0 for an array of over 1024, which isn't read.
 fn read_received_room(memory: &GuestMemory, given: &RecvIn) -> Result<u64, Errno>

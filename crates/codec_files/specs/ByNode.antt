@@ -4,6 +4,7 @@ use Rattle.std.specs.Int.RustNames.{bit_and}
 use Rattle.abi_base.specs.declared.errno.Errno.{Errno}
 use Rattle.abi_base.specs.declared.errno.Errno.TheVariants.{Inval}
 use Rattle.abi_base.specs.Registers.{Registers}
+use Rattle.abi_base.specs.declared.flags.TheConstants.{FILESTAT_SIZE}
 use Rattle.abi_types.specs.declared.call.Call.{Call}
 use Rattle.abi_types.specs.declared.call.Call.TheVariants.{FileAdvise, FileAllocate, FileReaddir, FileStatFget, FileStatFput, FileStatGet, FileStatPut}
 use Rattle.guest_memory.specs.Page.{Pages}
@@ -14,7 +15,7 @@ use Rattle.codec_arguments.specs.Structures.{filestat_at}
 use Rattle.codec_arguments.specs.declared.ranges.TheConstants.{MOST_TRANSFERRED}
 use Rattle.codec_calls.specs.Flags.{has_unknown}
 use Rattle.codec_files.specs.ByPath.{lookup_of, looks_unknown}
-use Rattle.codec_files.specs.declared.by_node.TheConstants.{ATIM_BOTH, KNOWN_SETTINGS, MTIM_BOTH, SIZE}
+use Rattle.codec_files.specs.declared.by_node.TheConstants.{ATIM_BOTH, KNOWN_SETTINGS, MTIM_BOTH}
 
 -- file_advise: a descriptor, an offset, a length and an advice from 1 to 6. The part of the file ends below 2^63
 abbrev pub file_advise_of : Registers → Result Call Errno
@@ -41,8 +42,7 @@ file_stat_fget_of m r =
     writable m (argument r 1) 56 >>= λ _.
     Ok (FileStatFget (low (argument r 0)))
 
--- settings of a file's state that can't be: none, one that there isn't, or a time both as given and as it is now. ATIM is 1,
--- ATIM_NOW 2, MTIM 4, MTIM_NOW 8, SIZE 16
+-- settings of a file's state that can't be: none, one that there isn't, or a time both as given and as it is now
 abbrev pub sets_wrongly : ℕ → Bool
 sets_wrongly flags =
     has_unknown flags KNOWN_SETTINGS || flags == 0 || bit_and flags ATIM_BOTH == ATIM_BOTH || bit_and flags MTIM_BOTH == MTIM_BOTH
@@ -67,7 +67,7 @@ abbrev pub file_stat_put_of : Pages → Registers → Result Call Errno
 file_stat_put_of m r =
     refuse_when (looks_unknown (argument r 0)) Inval >>= λ _.
     refuse_when (sets_wrongly (low (argument r 4))) Inval >>= λ _.
-    refuse_when (bit_and (low (argument r 4)) SIZE == SIZE) Inval >>= λ _.
+    refuse_when (bit_and (low (argument r 4)) FILESTAT_SIZE == FILESTAT_SIZE) Inval >>= λ _.
     path_in m (argument r 1) (argument r 2) >>= λ path.
     filestat_at m (argument r 3) >>= λ stat.
     Ok (FileStatPut (lookup_of (argument r 0)) path stat (low (argument r 4)))

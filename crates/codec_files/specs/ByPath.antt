@@ -4,6 +4,7 @@ use Rattle.std.specs.Int.RustNames.{bit_and}
 use Rattle.abi_base.specs.declared.errno.Errno.{Errno}
 use Rattle.abi_base.specs.declared.errno.Errno.TheVariants.{Inval}
 use Rattle.abi_base.specs.Registers.{Registers}
+use Rattle.abi_base.specs.declared.flags.TheConstants.{FILETYPE_DIRECTORY, LOOKUP_SYMLINK_FOLLOW, UNLINK_REMOVEDIR}
 use Rattle.abi_types.specs.declared.call.Call.{Call}
 use Rattle.abi_types.specs.declared.call.Call.TheVariants.{FileCreate, FileLink, FileOpen, FileReadlink, FileRename, FileSymlink, FileUnlink}
 use Rattle.abi_types.specs.declared.call.Lookup.{Lookup}
@@ -15,7 +16,7 @@ use Rattle.codec_arguments.specs.Structures.{fdstat_at}
 use Rattle.codec_arguments.specs.declared.ranges.TheConstants.{MOST_TRANSFERRED}
 use Rattle.codec_calls.specs.DescriptorCalls.{asks_unknown}
 use Rattle.codec_calls.specs.Flags.{has_unknown}
-use Rattle.codec_files.specs.declared.by_path.TheConstants.{CREAT_DIRECTORY, DIRECTORY, KNOWN_OFLAGS, REMOVEDIR, SYMLINK_FOLLOW}
+use Rattle.codec_files.specs.declared.by_path.TheConstants.{CREAT_DIRECTORY, KNOWN_OFLAGS}
 
 -- where a path begins: a descriptor in the low half of a register, and lookup flags in its high half
 abbrev pub lookup_of : ℕ → Lookup
@@ -23,12 +24,12 @@ lookup_of value = record { fd = low value; flags = high value }
 
 -- a lookup flag that there isn't: SYMLINK_FOLLOW is the only one
 abbrev pub looks_unknown : ℕ → Bool
-looks_unknown value = has_unknown (high value) SYMLINK_FOLLOW
+looks_unknown value = has_unknown (high value) LOOKUP_SYMLINK_FOLLOW
 
 -- file_create: a descriptor, a path and a type of file, which is DIRECTORY
 abbrev pub file_create_of : Pages → Registers → Result Call Errno
 file_create_of m r =
-    refuse_when (not (low (argument r 3) == DIRECTORY)) Inval >>= λ _.
+    refuse_when (not (low (argument r 3) == FILETYPE_DIRECTORY)) Inval >>= λ _.
     path_in m (argument r 1) (argument r 2) >>= λ path.
     Ok (FileCreate (low (argument r 0)) path (low (argument r 3)))
 
@@ -40,8 +41,7 @@ file_link_of m r =
     path_in m (argument r 4) (argument r 5) >>= λ new_path.
     Ok (FileLink (lookup_of (argument r 0)) path (low (argument r 3)) new_path)
 
--- flags of opening that there aren't, or CREAT, which makes a file, with DIRECTORY, which opens none. CREAT is 1, DIRECTORY 2,
--- EXCL 4, TRUNC 8
+-- flags of opening that there aren't, or CREAT, which makes a file, with DIRECTORY, which opens none
 abbrev pub opens_wrongly : ℕ → Bool
 opens_wrongly oflags = has_unknown oflags KNOWN_OFLAGS || bit_and oflags CREAT_DIRECTORY == CREAT_DIRECTORY
 
@@ -79,6 +79,6 @@ file_symlink_of m r =
 -- file_unlink: a descriptor, a path and flags, of which REMOVEDIR is the only one
 abbrev pub file_unlink_of : Pages → Registers → Result Call Errno
 file_unlink_of m r =
-    refuse_when (has_unknown (low (argument r 3)) REMOVEDIR) Inval >>= λ _.
+    refuse_when (has_unknown (low (argument r 3)) UNLINK_REMOVEDIR) Inval >>= λ _.
     path_in m (argument r 1) (argument r 2) >>= λ path.
     Ok (FileUnlink (low (argument r 0)) path (low (argument r 3)))

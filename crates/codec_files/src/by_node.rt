@@ -6,6 +6,10 @@ ghost use Rattle.codec_files.specs.ByNode.{file_stat_get_of, file_stat_put_of, s
 
 use crate::by_path::{looks_unknown, lookup_of};
 use abi_types::{Call, Errno, Regs};
+use abi_types::flags::{
+    FILESTAT_ATIM, FILESTAT_ATIM_NOW, FILESTAT_MTIM, FILESTAT_MTIM_NOW, FILESTAT_SIZE,
+    FILESTAT_TIMES,
+};
 use codec_arguments::{
     ArgumentFault, MOST_TRANSFERRED, check_writable, low, read_filestat, read_path, refuse_when,
 };
@@ -13,20 +17,17 @@ use codec_calls::has_unknown;
 use guest_memory::GuestMemory;
 use std::alloc::Global;
 
-/// The settings of a file's state that there are: ATIM 1, ATIM_NOW 2, MTIM 4, MTIM_NOW 8, SIZE 16.
-pub const KNOWN_SETTINGS: u32 = 31;
+/// The settings of a file's state that there are.
+pub const KNOWN_SETTINGS: u32 = FILESTAT_TIMES | FILESTAT_SIZE;
 
 /// The time of the last access, as given and as it is now.
-pub const ATIM_BOTH: u32 = 3;
+pub const ATIM_BOTH: u32 = FILESTAT_ATIM | FILESTAT_ATIM_NOW;
 
 /// The time of the last modification, as given and as it is now.
-pub const MTIM_BOTH: u32 = 12;
-
-/// The setting of the size.
-pub const SIZE: u32 = 16;
+pub const MTIM_BOTH: u32 = FILESTAT_MTIM | FILESTAT_MTIM_NOW;
 
 // How many bytes a file's state has.
-const FILESTAT_SIZE: u64 = 56;
+const FILESTAT_LENGTH: u64 = 56;
 
 // Whether a part of a file ends at 2^63 or behind it.
 fn ends_beyond(offset: u64, length: u64) -> bool
@@ -84,7 +85,7 @@ pub fn file_readdir(regs: &Regs, memory: &GuestMemory) -> Result<Call, Errno>
 pub fn file_stat_fget(regs: &Regs, memory: &GuestMemory) -> Result<Call, Errno>
     ensures { result ≡ file_stat_fget_of memory.now regs.now }
 {
-    check_writable(memory, regs.get(11), FILESTAT_SIZE)?;
+    check_writable(memory, regs.get(11), FILESTAT_LENGTH)?;
     Ok(Call::FileStatFget {
         fd: low(regs.get(10)),
     })
@@ -127,7 +128,7 @@ pub fn file_stat_get(
     let lookup = regs.get(10);
     refuse_when(looks_unknown(lookup), Errno::Inval)?;
     let path = read_path(alloc, memory, regs.get(11), regs.get(12))?;
-    check_writable(memory, regs.get(13), FILESTAT_SIZE)?;
+    check_writable(memory, regs.get(13), FILESTAT_LENGTH)?;
     Ok(Call::FileStatGet {
         lookup: lookup_of(lookup),
         path,
@@ -147,7 +148,7 @@ pub fn file_stat_put(
     let flags = low(regs.get(14));
     refuse_when(looks_unknown(lookup), Errno::Inval)?;
     refuse_when(sets_wrongly(flags), Errno::Inval)?;
-    refuse_when(flags & SIZE == SIZE, Errno::Inval)?;
+    refuse_when(flags & FILESTAT_SIZE == FILESTAT_SIZE, Errno::Inval)?;
     let path = read_path(alloc, memory, regs.get(11), regs.get(12))?;
     let stat = read_filestat(memory, regs.get(13))?;
     Ok(Call::FileStatPut {

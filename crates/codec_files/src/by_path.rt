@@ -5,6 +5,10 @@ ghost use Rattle.codec_files.specs.ByPath.{file_create_of, file_link_of, file_op
 ghost use Rattle.codec_files.specs.ByPath.{file_symlink_of, file_unlink_of, lookup_of, looks_unknown, opens_wrongly};
 
 use abi_types::{Call, Errno, Lookup, Regs};
+use abi_types::flags::{
+    FILETYPE_DIRECTORY, LOOKUP_SYMLINK_FOLLOW, O_CREAT, O_DIRECTORY, O_EXCL, O_TRUNC,
+    UNLINK_REMOVEDIR,
+};
 use codec_arguments::{
     ArgumentFault, MOST_TRANSFERRED, check_writable, high, low, read_fdstat, read_path, refuse_when,
 };
@@ -12,20 +16,11 @@ use codec_calls::{asks_unknown, has_unknown};
 use guest_memory::GuestMemory;
 use std::alloc::Global;
 
-/// The lookup flag by which a symbolic link at a path's end is followed.
-pub const SYMLINK_FOLLOW: u32 = 1;
-
-/// The type of a directory.
-pub const DIRECTORY: u32 = 32;
-
-/// The flags of opening that there are: CREAT 1, DIRECTORY 2, EXCL 4, TRUNC 8.
-pub const KNOWN_OFLAGS: u32 = 15;
+/// The flags of opening that there are.
+pub const KNOWN_OFLAGS: u32 = O_CREAT | O_DIRECTORY | O_EXCL | O_TRUNC;
 
 /// CREAT, which makes a file, with DIRECTORY, which opens none.
-pub const CREAT_DIRECTORY: u32 = 3;
-
-/// The flag by which file_unlink takes a directory's name away.
-pub const REMOVEDIR: u32 = 1;
+pub const CREAT_DIRECTORY: u32 = O_CREAT | O_DIRECTORY;
 
 /// The descriptor in the low half of a register, and the lookup flags in its high half.
 pub(crate) fn lookup_of(value: u64) -> Lookup
@@ -41,7 +36,7 @@ pub(crate) fn lookup_of(value: u64) -> Lookup
 pub(crate) fn looks_unknown(value: u64) -> bool
     ensures { result ≡ looks_unknown value }
 {
-    has_unknown(high(value), SYMLINK_FOLLOW)
+    has_unknown(high(value), LOOKUP_SYMLINK_FOLLOW)
 }
 
 /// file_create: a descriptor, a path and a type of file. INVAL for a type but DIRECTORY, FAULT for a path that can't be read.
@@ -49,7 +44,7 @@ pub fn file_create(alloc: Global, regs: &Regs, memory: &GuestMemory) -> Result<C
     ensures { Reads result (file_create_of memory.now regs.now) }
 {
     let kind = low(regs.get(13));
-    refuse_when(kind != DIRECTORY, Errno::Inval)?;
+    refuse_when(kind != u32::from(FILETYPE_DIRECTORY), Errno::Inval)?;
     let path = read_path(alloc, memory, regs.get(11), regs.get(12))?;
     Ok(Call::FileCreate {
         fd: low(regs.get(10)),
@@ -154,7 +149,7 @@ pub fn file_unlink(alloc: Global, regs: &Regs, memory: &GuestMemory) -> Result<C
     ensures { Reads result (file_unlink_of memory.now regs.now) }
 {
     let flags = low(regs.get(13));
-    refuse_when(has_unknown(flags, REMOVEDIR), Errno::Inval)?;
+    refuse_when(has_unknown(flags, UNLINK_REMOVEDIR), Errno::Inval)?;
     let path = read_path(alloc, memory, regs.get(11), regs.get(12))?;
     Ok(Call::FileUnlink {
         fd: low(regs.get(10)),

@@ -3,6 +3,7 @@ use Rattle.std.specs.Prelude.{Bool, true, false, not, ◌==◌, ◌||◌, List, 
 use Rattle.std.specs.List.{list_any}
 use Rattle.abi_base.specs.declared.errno.Errno.{Errno}
 use Rattle.abi_base.specs.declared.errno.Errno.TheVariants.{Inval, Notsup}
+use Rattle.abi_base.specs.declared.flags.TheConstants.{SUBSCRIPTION_CLOCK_ABSTIME}
 use Rattle.abi_structures.specs.declared.events.Subscription.{Subscription}
 use Rattle.abi_structures.specs.declared.events.What.{What}
 use Rattle.abi_structures.specs.declared.events.What.TheVariants as what
@@ -11,7 +12,6 @@ use Rattle.codec_arguments.specs.Reading.{◌>>=◌, refuse_when}
 use Rattle.codec_calls.specs.ClockCalls.{is_cpu_clock, is_time_clock}
 use Rattle.codec_calls.specs.Flags.{has_unknown}
 use Rattle.codec_calls.specs.LockCalls.{is_misaligned, scope_known}
-use Rattle.codec_poll.specs.declared.rules.TheConstants.{ABSTIME}
 
 -- a subscription, if its type is known
 abbrev pub known : Option Subscription → Result Subscription Errno
@@ -25,7 +25,7 @@ all_known (s ∷ others) = in_front (known s) (all_known others)
 
 -- a CLOCK of a clock or with a flag that there isn't
 abbrev pub unknown_clock_in : What → Bool
-unknown_clock_in (what.Clock clock timeout precision flags) = not (is_cpu_clock clock || is_time_clock clock) || has_unknown flags ABSTIME
+unknown_clock_in (what.Clock clock timeout precision flags) = not (is_cpu_clock clock || is_time_clock clock) || has_unknown flags SUBSCRIPTION_CLOCK_ABSTIME
 unknown_clock_in other = false
 
 abbrev pub has_unknown_clock : Subscription → Bool
@@ -51,7 +51,7 @@ has_lock s = lock_in s.what
 
 -- a CLOCK with ABSTIME, the one flag that there is
 abbrev pub deadline_in : What → Bool
-deadline_in (what.Clock clock timeout precision flags) = flags == ABSTIME
+deadline_in (what.Clock clock timeout precision flags) = flags == SUBSCRIPTION_CLOCK_ABSTIME
 deadline_in other = false
 
 abbrev pub is_deadline : Subscription → Bool

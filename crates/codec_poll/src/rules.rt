@@ -6,12 +6,10 @@ ghost use Rattle.codec_poll.specs.Rules.{all_known, allowed, are_placed, has_bad
 ghost use Rattle.codec_poll.specs.Rules.{is_deadline, scopes_in, scopes_known, stand_for_lock};
 
 use abi_types::{Errno, Subscription, SubscriptionList, What};
+use abi_types::flags::SUBSCRIPTION_CLOCK_ABSTIME;
 use codec_arguments::{ArgumentFault, refuse_when};
 use codec_calls::{check_scope, has_unknown, is_cpu_clock, is_misaligned, is_time_clock};
 use std::alloc::Global;
-
-/// The flag of a CLOCK whose time is a moment, and not how long it takes.
-pub const ABSTIME: u32 = 1;
 
 /// The subscriptions, of which each is `None` where its type isn't known: that is INVAL.
 pub(crate) fn all_known(
@@ -36,7 +34,8 @@ fn has_unknown_clock(subscription: &Subscription) -> bool
 {
     match subscription.what {
         What::Clock { clock, flags, .. } => {
-            !(is_cpu_clock(clock) || is_time_clock(clock)) || has_unknown(u32::from(flags), ABSTIME)
+            !(is_cpu_clock(clock) || is_time_clock(clock))
+                || has_unknown(u32::from(flags), u32::from(SUBSCRIPTION_CLOCK_ABSTIME))
         }
         _ => false,
     }
@@ -88,7 +87,7 @@ fn is_deadline(subscription: &Subscription) -> bool
     ensures { result ≡ is_deadline subscription.now }
 {
     match subscription.what {
-        What::Clock { flags, .. } => u32::from(flags) == ABSTIME,
+        What::Clock { flags, .. } => flags == SUBSCRIPTION_CLOCK_ABSTIME,
         _ => false,
     }
 }

@@ -3,6 +3,7 @@ use Rattle.std.specs.Prelude.{◌≡◌, ◌≢◌, ◌⊎◌, ◌↔◌, ℕ, b
 use Rattle.abi_base.specs.Rights.{Has}
 use Rattle.abi_base.specs.declared.rights.Rights.{Rights}
 use Rattle.abi_base.specs.declared.rights.TheConstants.Rights.{NONE, FD_DATASYNC, FD_READ, FD_SEEK, FD_STAT_PUT_FLAGS, FD_SYNC, FD_TELL, FD_WRITE, FILE_ADVISE, FILE_ALLOCATE, FILE_CREATE_DIRECTORY, FILE_CREATE_FILE, FILE_LINK_SOURCE, FILE_LINK_TARGET, FILE_OPEN, FILE_READDIR, FILE_READLINK, FILE_RENAME_SOURCE, FILE_RENAME_TARGET, FILE_STAT_FGET, FILE_STAT_FPUT_SIZE, FILE_STAT_FPUT_TIMES, FILE_STAT_GET, FILE_STAT_PUT_TIMES, FILE_SYMLINK, FILE_UNLINK, MEM_MAP, MEM_MAP_EXEC, POLL_FD_READWRITE, POLL_PROC_TERMINATE, PROC_EXEC, SOCK_SHUTDOWN}
+use Rattle.abi_base.specs.declared.flags.TheConstants.{FDSTAT_FLAGS, FDSTAT_RIGHTS, FILESTAT_SIZE, FILESTAT_TIMES, O_CREAT, O_TRUNC, PROT_EXEC, WHENCE_CUR}
 use Rattle.abi_structures.specs.declared.events.Subscription.{Subscription}
 use Rattle.abi_structures.specs.declared.events.What.{What}
 use Rattle.abi_structures.specs.declared.events.What.TheVariants as what
@@ -25,9 +26,9 @@ AreSet flags bits = bit_and flags bits ≢ 0
 abbrev pub Awaits : List Subscription → What → Type 0
 Awaits subscriptions what = (s : Subscription) × IsIn s subscriptions × (s.what ≡ what)
 
--- a seek that only tells where it is: from there (1, CUR), by nothing
+-- a seek that only tells where it is: from there, by nothing
 abbrev pub OnlyTells : ℕ → ℕ → Type 0
-OnlyTells offset whence = (offset ≡ 0) × (whence ≡ 1)
+OnlyTells offset whence = (offset ≡ 0) × (whence ≡ WHENCE_CUR)
 
 -- The right is needed, among its base rights, of the descriptor under this number by the call.
 pub data NeedsRight : Rights → ℕ → Call → Type 0 where
@@ -47,16 +48,16 @@ pub data NeedsRight : Rights → ℕ → Call → Type 0 where
   seek : (fd offset whence : ℕ) → ¬ OnlyTells offset whence → NeedsRight FD_SEEK fd (call.FdSeek fd offset whence)
   seek_to_read : (fd n at : ℕ) → NeedsRight FD_SEEK fd (call.FdPread fd n at)
   seek_to_write : (fd : ℕ) (bytes : List ℕ) (at : ℕ) → NeedsRight FD_SEEK fd (call.FdPwrite fd bytes at)
-  tell : (fd : ℕ) → NeedsRight FD_TELL fd (call.FdSeek fd 0 1)
-  -- to set flags (1); and of rights (2) those that are to stay
-  put_flags : (fd : ℕ) (stat : FdStat) (flags : ℕ) → AreSet flags 1 → NeedsRight FD_STAT_PUT_FLAGS fd (call.FdStatPut fd stat flags)
-  put_rights : (fd : ℕ) (stat : FdStat) (flags : ℕ) → AreSet flags 2 → NeedsRight stat.base fd (call.FdStatPut fd stat flags)
+  tell : (fd : ℕ) → NeedsRight FD_TELL fd (call.FdSeek fd 0 WHENCE_CUR)
+  -- to set flags; and of rights those that are to stay
+  put_flags : (fd : ℕ) (stat : FdStat) (flags : ℕ) → AreSet flags FDSTAT_FLAGS → NeedsRight FD_STAT_PUT_FLAGS fd (call.FdStatPut fd stat flags)
+  put_rights : (fd : ℕ) (stat : FdStat) (flags : ℕ) → AreSet flags FDSTAT_RIGHTS → NeedsRight stat.base fd (call.FdStatPut fd stat flags)
   -- to say how a file will be used, and to make it longer
   advise : (fd offset length advice : ℕ) → NeedsRight FILE_ADVISE fd (call.FileAdvise fd offset length advice)
   allocate : (fd offset length : ℕ) → NeedsRight FILE_ALLOCATE fd (call.FileAllocate fd offset length)
-  -- to make names and take them away; with CREAT (1) file_open makes a file
+  -- to make names and take them away; with CREAT file_open makes a file
   create_directory : (fd : ℕ) (path : List ℕ) (kind : ℕ) → NeedsRight FILE_CREATE_DIRECTORY fd (call.FileCreate fd path kind)
-  create_file : (lookup : Lookup) (path : List ℕ) (oflags : ℕ) (stat : FdStat) → AreSet oflags 1
+  create_file : (lookup : Lookup) (path : List ℕ) (oflags : ℕ) (stat : FdStat) → AreSet oflags O_CREAT
       → NeedsRight FILE_CREATE_FILE lookup.fd (call.FileOpen lookup path oflags stat)
   link_source : (lookup : Lookup) (path : List ℕ) (fd : ℕ) (new : List ℕ) → NeedsRight FILE_LINK_SOURCE lookup.fd (call.FileLink lookup path fd new)
   link_target : (lookup : Lookup) (path : List ℕ) (fd : ℕ) (new : List ℕ) → NeedsRight FILE_LINK_TARGET fd (call.FileLink lookup path fd new)
@@ -68,15 +69,15 @@ pub data NeedsRight : Rights → ℕ → Call → Type 0 where
   opens : (lookup : Lookup) (path : List ℕ) (oflags : ℕ) (stat : FdStat) → NeedsRight FILE_OPEN lookup.fd (call.FileOpen lookup path oflags stat)
   readdir : (fd length cookie : ℕ) → NeedsRight FILE_READDIR fd (call.FileReaddir fd length cookie)
   readlink : (fd : ℕ) (path : List ℕ) (length : ℕ) → NeedsRight FILE_READLINK fd (call.FileReadlink fd path length)
-  -- to know what a file is, and to set its size (16, SIZE) and its times (15, all other flags)
+  -- to know what a file is, and to set its size and its times
   stat_fget : (fd : ℕ) → NeedsRight FILE_STAT_FGET fd (call.FileStatFget fd)
   stat_get : (lookup : Lookup) (path : List ℕ) → NeedsRight FILE_STAT_GET lookup.fd (call.FileStatGet lookup path)
-  fput_size : (fd : ℕ) (stat : FileStat) (flags : ℕ) → AreSet flags 16 → NeedsRight FILE_STAT_FPUT_SIZE fd (call.FileStatFput fd stat flags)
-  fput_times : (fd : ℕ) (stat : FileStat) (flags : ℕ) → AreSet flags 15 → NeedsRight FILE_STAT_FPUT_TIMES fd (call.FileStatFput fd stat flags)
+  fput_size : (fd : ℕ) (stat : FileStat) (flags : ℕ) → AreSet flags FILESTAT_SIZE → NeedsRight FILE_STAT_FPUT_SIZE fd (call.FileStatFput fd stat flags)
+  fput_times : (fd : ℕ) (stat : FileStat) (flags : ℕ) → AreSet flags FILESTAT_TIMES → NeedsRight FILE_STAT_FPUT_TIMES fd (call.FileStatFput fd stat flags)
   put_times : (lookup : Lookup) (path : List ℕ) (stat : FileStat) (flags : ℕ) → NeedsRight FILE_STAT_PUT_TIMES lookup.fd (call.FileStatPut lookup path stat flags)
-  -- to map a file's bytes, and to execute them (4, EXEC is 1 of the protection)
+  -- to map a file's bytes, and to execute them
   map : (place : Place) (length prot flags fd offset : ℕ) → is_anonymous flags ≡ false → NeedsRight MEM_MAP fd (call.MemMap place length prot flags fd offset)
-  map_to_execute : (place : Place) (length prot flags fd offset : ℕ) → is_anonymous flags ≡ false → AreSet prot 1
+  map_to_execute : (place : Place) (length prot flags fd offset : ℕ) → is_anonymous flags ≡ false → AreSet prot PROT_EXEC
       → NeedsRight MEM_MAP_EXEC fd (call.MemMap place length prot flags fd offset)
   -- to wait for what can be read or written, and for the end of a process
   poll_read : (subscriptions : List Subscription) (fd : ℕ) → Awaits subscriptions (what.FdRead fd) → NeedsRight POLL_FD_READWRITE fd (call.Poll subscriptions)
@@ -88,12 +89,12 @@ pub data NeedsRight : Rights → ℕ → Call → Type 0 where
 
 -- The right is asked, among the rights that it passes on, of the descriptor under this number by the call.
 pub data AsksRight : Rights → ℕ → Call → Type 0 where
-  -- the rights that are to stay, with RIGHTS (2)
-  put_inheriting : (fd : ℕ) (stat : FdStat) (flags : ℕ) → AreSet flags 2 → AsksRight stat.inheriting fd (call.FdStatPut fd stat flags)
-  -- those of what is opened, and with TRUNC (8) the right to set its size
+  -- the rights that are to stay, with RIGHTS
+  put_inheriting : (fd : ℕ) (stat : FdStat) (flags : ℕ) → AreSet flags FDSTAT_RIGHTS → AsksRight stat.inheriting fd (call.FdStatPut fd stat flags)
+  -- those of what is opened, and with TRUNC the right to set its size
   open_base : (lookup : Lookup) (path : List ℕ) (oflags : ℕ) (stat : FdStat) → AsksRight stat.base lookup.fd (call.FileOpen lookup path oflags stat)
   open_inheriting : (lookup : Lookup) (path : List ℕ) (oflags : ℕ) (stat : FdStat) → AsksRight stat.inheriting lookup.fd (call.FileOpen lookup path oflags stat)
-  truncate : (lookup : Lookup) (path : List ℕ) (oflags : ℕ) (stat : FdStat) → AreSet oflags 8
+  truncate : (lookup : Lookup) (path : List ℕ) (oflags : ℕ) (stat : FdStat) → AreSet oflags O_TRUNC
       → AsksRight FILE_STAT_FPUT_SIZE lookup.fd (call.FileOpen lookup path oflags stat)
 
 -- A call needs a right of a descriptor where it is listed so, and only there; so it is of what it asks of the rights that are passed on. And one right stands
@@ -104,7 +105,7 @@ pub record NeedsAreListed (c : Call) : Type 0 where
   pub inheriting : (fd k : ℕ)
       → ((row : Needed) × IsIn row (need c) × (row.fd ≡ fd) × Has row.inheriting.0 k) ↔ ((right : Rights) × AsksRight right fd c × Has right.0 k)
   pub instead : (row : Needed) → IsIn row (need c)
-      → (row.instead ≡ NONE) ⊎ ((c ≡ call.FdSeek row.fd 0 1) × (row.base ≡ FD_TELL) × (row.instead ≡ FD_SEEK))
+      → (row.instead ≡ NONE) ⊎ ((c ≡ call.FdSeek row.fd 0 WHENCE_CUR) × (row.base ≡ FD_TELL) × (row.instead ≡ FD_SEEK))
 
 abbrev pub AllNeedsAreListed : Type 0
 AllNeedsAreListed = (c : Call) → NeedsAreListed c

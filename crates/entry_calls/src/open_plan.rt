@@ -10,42 +10,34 @@ use crate::failure::errno_of;
 use crate::places::{NamePlace, name_at};
 use crate::plans::OpenPlan;
 use abi_types::{Errno, Node, NodeKind, ObjId, OpenKind};
+use abi_types::flags::{O_CREAT, O_DIRECTORY, O_EXCL, O_TRUNC};
 use file_calls::{PathFault, lookup_mode, walked};
 use file_tree::Tree;
 use path_lookup::{End, WalkMode};
 
-// Flags of opening.
-const CREAT: u32 = 1;
-
-const DIRECTORY: u32 = 2;
-
-const EXCL: u32 = 4;
-
-const TRUNC: u32 = 8;
-
 fn creates(oflags: u32) -> bool
     ensures { result ≡ model.creates oflags }
 {
-    oflags & CREAT != 0
+    oflags & O_CREAT != 0
 }
 
 fn wants_directory(oflags: u32) -> bool
     ensures { result ≡ model.wants_directory oflags }
 {
-    oflags & DIRECTORY != 0
+    oflags & O_DIRECTORY != 0
 }
 
 fn truncates(oflags: u32) -> bool
     ensures { result ≡ model.truncates oflags }
 {
-    oflags & TRUNC != 0
+    oflags & O_TRUNC != 0
 }
 
 // What is opened must be new.
 fn makes_new(oflags: u32) -> bool
     ensures { result ≡ model.makes_new oflags }
 {
-    creates(oflags) && oflags & EXCL != 0
+    creates(oflags) && oflags & O_EXCL != 0
 }
 
 // A symlink that is last isn't followed where the file must be new.

@@ -11,17 +11,15 @@ use crate::failure::{Failure, failed, refused_with};
 use crate::places::{last_name, name_at};
 use crate::times::set_recounted;
 use abi_types::{Errno, NodeKind, ObjId, OpenKind};
+use abi_types::flags::UNLINK_REMOVEDIR;
 use file_calls::set_modified;
 use file_tree::Tree;
 use tree_model::TreeFault;
 
-// A directory's name is taken away with this flag, any other without it.
-const REMOVEDIR: u32 = 1;
-
 fn removes_directory(flags: u32) -> bool
     ensures { result ≡ model.removes_directory flags }
 {
-    flags & REMOVEDIR != 0
+    flags & UNLINK_REMOVEDIR != 0
 }
 
 // Whether the number is a directory's.

@@ -4,18 +4,12 @@ ghost use Rattle.kernel_model.specs.Families.FileOffsets as model;
 ghost use Rattle.fd_calls.specs.AtOffset.{IsAtOffset};
 
 use abi_types::{Errno, ObjId, OpenKind, Reply};
+use abi_types::flags::{WHENCE_CUR, WHENCE_END, WHENCE_SET};
 use file_tree::Tree;
 use right_rules::{refused, success};
 
 // The first number that is no offset; as the bits of a signed number it is the least one.
 const OFFSET_LIMIT: u64 = 0x8000_0000_0000_0000;
-
-// From where a place is counted: from the offset or from the file's end; or it is given.
-const CUR: u32 = 1;
-
-const END: u32 = 2;
-
-const SET: u32 = 3;
 
 // The number, where it is an offset.
 #[tactic(auto, unfolding(kernel_model::specs::Families::FileOffsets::as_offset))]
@@ -50,9 +44,9 @@ fn sought(tree: &Tree, node: ObjId, offset: u64, bits: u64, whence: u32) -> Opti
     ensures { result ≡ model.sought tree.now node offset bits whence }
 {
     match whence {
-        CUR => offset_from(offset, bits),
-        END => offset_from(tree.bytes(node).len() as u64, bits),
-        SET => as_offset(bits),
+        WHENCE_CUR => offset_from(offset, bits),
+        WHENCE_END => offset_from(tree.bytes(node).len() as u64, bits),
+        WHENCE_SET => as_offset(bits),
         _ => None,
     }
 }

@@ -7,14 +7,12 @@ ghost use Rattle.file_calls.specs.Done.{HasSameNodes};
 ghost use Rattle.file_calls.specs.Opens.{IsThere};
 
 use abi_types::{Errno, ObjId, OpenKind, Payload, Reply};
+use abi_types::flags::FDFLAG_APPEND;
 use file_calls::{overwrite, read_file};
 use file_tree::Tree;
 use right_rules::{refused, success, success_with};
 use std::alloc::{AllocError, Global};
 use tree_model::MOST_FILE_BYTES;
-
-// The flag of an open whose writes go to the file's end.
-const APPEND: u16 = 1;
 
 /// Reads at most so many bytes at the open's offset, which moves on behind them. `Err` changes nothing.
 pub(crate) fn fd_read(
@@ -45,14 +43,14 @@ pub(crate) fn fd_read(
 fn write_place(tree: &Tree, node: ObjId, offset: u64, flags: u16) -> u64
     ensures { result ≡ model.write_place tree.now node offset flags }
 {
-    if flags & APPEND == 0 {
+    if flags & FDFLAG_APPEND == 0 {
         offset
     } else {
         tree.bytes(node).len() as u64
     }
 }
 
-/// Writes the bytes at the open's offset, or with APPEND at the file's end, at this time in nanoseconds since 1970. The offset
+/// Writes the bytes at the open's offset, or with `FDFLAG_APPEND` at the file's end, at this time in nanoseconds since 1970. The offset
 /// is behind them then. `Err` changes nothing.
 pub(crate) fn fd_write(
     tree: &mut Tree,

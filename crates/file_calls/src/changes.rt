@@ -14,23 +14,14 @@ use crate::path_fault::reply_of;
 use crate::paths::{found, lookup_mode};
 use abi_structures::FileStat;
 use abi_types::{Errno, ObjId, OpenKind, Reply, Times};
+use abi_types::flags::{
+    FILESTAT_ATIM, FILESTAT_ATIM_NOW, FILESTAT_MTIM, FILESTAT_MTIM_NOW, FILESTAT_SIZE,
+    FILESTAT_TIMES,
+};
 use file_tree::Tree;
 use right_rules::{refused, success};
 use std::alloc::AllocError;
 use tree_model::MOST_FILE_BYTES;
-
-// What a call puts: a time that is given, the present time, and a size.
-const ATIM: u32 = 1;
-
-const ATIM_NOW: u32 = 2;
-
-const MTIM: u32 = 4;
-
-const MTIM_NOW: u32 = 8;
-
-const ANY_TIME: u32 = 15;
-
-const SIZE: u32 = 16;
 
 // ---- parts of changes
 
@@ -100,8 +91,8 @@ fn times_put(flags: u32, stat: &FileStat, now: u64, times: Times) -> Times
     ensures { result ≡ model.times_put flags stat.now now times }
 {
     Times {
-        atim: chosen(flags, ATIM, ATIM_NOW, stat.atim, now, times.atim),
-        mtim: chosen(flags, MTIM, MTIM_NOW, stat.mtim, now, times.mtim),
+        atim: chosen(flags, FILESTAT_ATIM, FILESTAT_ATIM_NOW, stat.atim, now, times.atim),
+        mtim: chosen(flags, FILESTAT_MTIM, FILESTAT_MTIM_NOW, stat.mtim, now, times.mtim),
         ctim: now,
     }
 }
@@ -110,7 +101,7 @@ fn times_put(flags: u32, stat: &FileStat, now: u64, times: Times) -> Times
 fn put_times(tree: &mut Tree, node: ObjId, now: u64, stat: &FileStat, flags: u32)
     ensures { tree.new ≡ model.put_times flags stat.now now tree.old node }
 {
-    if flags & ANY_TIME == 0 {
+    if flags & FILESTAT_TIMES == 0 {
         return;
     }
     if let Some(found) = tree.node(node) {
@@ -122,7 +113,7 @@ fn put_times(tree: &mut Tree, node: ObjId, now: u64, stat: &FileStat, flags: u32
 fn has_size(flags: u32) -> bool
     ensures { result ≡ model.has_size flags }
 {
-    flags & SIZE != 0
+    flags & FILESTAT_SIZE != 0
 }
 
 // The size that is asked, 0 where none is.

@@ -7,6 +7,7 @@ ghost use Rattle.file_calls.specs.Walks.{end_or_refusal, node_at, node_or_refusa
 
 use crate::path_fault::PathFault;
 use abi_types::{Errno, ObjId, OpenKind};
+use abi_types::flags::LOOKUP_SYMLINK_FOLLOW;
 use file_tree::Tree;
 use path_lookup::{End, WalkFault, WalkMode};
 use std::str;
@@ -14,14 +15,11 @@ use std::str;
 // The most bytes of a path.
 const LONGEST_PATH: usize = 1024;
 
-// Lookup flags: a symlink that is last is followed.
-const SYMLINK_FOLLOW: u32 = 1;
-
 /// What a walk does with a symlink that is last, by a call's lookup flags.
 pub fn lookup_mode(flags: u32) -> WalkMode
     ensures { result ≡ paths.lookup_mode flags }
 {
-    if flags & SYMLINK_FOLLOW == 0 {
+    if flags & LOOKUP_SYMLINK_FOLLOW == 0 {
         WalkMode::NoFollow
     } else {
         WalkMode::Follow

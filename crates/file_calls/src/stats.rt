@@ -11,6 +11,10 @@ use crate::path_fault::reply_of;
 use crate::paths::{found, lookup_mode};
 use abi_structures::FileStat;
 use abi_types::{Errno, Node, NodeKind, ObjId, OpenKind, Payload, Reply};
+use abi_types::flags::{
+    FILETYPE_CHARACTER_DEVICE, FILETYPE_DIRECTORY, FILETYPE_FIFO, FILETYPE_PROCESS,
+    FILETYPE_REGULAR_FILE, FILETYPE_SOCKET_STREAM, FILETYPE_SYMBOLIC_LINK,
+};
 use file_tree::Tree;
 use right_rules::{refused, success_with};
 
@@ -22,16 +26,16 @@ pub fn type_number(kind: &OpenKind) -> u8
     ensures { result ≡ descriptors.type_number kind.now }
 {
     match kind {
-        OpenKind::File { .. } => 96,
-        OpenKind::Directory { .. } => 32,
+        OpenKind::File { .. } => FILETYPE_REGULAR_FILE,
+        OpenKind::Directory { .. } => FILETYPE_DIRECTORY,
         OpenKind::End {
             reads: Some(_),
             writes: Some(_),
             ..
-        } => 130,
-        OpenKind::End { .. } => 48,
-        OpenKind::Terminal { .. } => 17,
-        OpenKind::Process { .. } => 80,
+        } => FILETYPE_SOCKET_STREAM,
+        OpenKind::End { .. } => FILETYPE_FIFO,
+        OpenKind::Terminal { .. } => FILETYPE_CHARACTER_DEVICE,
+        OpenKind::Process { .. } => FILETYPE_PROCESS,
     }
 }
 
@@ -40,9 +44,9 @@ pub(crate) fn node_type(kind: &NodeKind) -> u8
     ensures { result ≡ looks.node_type kind.now }
 {
     match kind {
-        NodeKind::File(_) => 96,
-        NodeKind::Directory => 32,
-        NodeKind::Link(_) => 144,
+        NodeKind::File(_) => FILETYPE_REGULAR_FILE,
+        NodeKind::Directory => FILETYPE_DIRECTORY,
+        NodeKind::Link(_) => FILETYPE_SYMBOLIC_LINK,
     }
 }
 

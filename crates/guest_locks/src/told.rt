@@ -1,8 +1,6 @@
 //! Which threads are to be looked at again.
+use abi_types::MOST_THREADS;
 use arrayvec::ArrayVec;
-
-// How many threads a process may have.
-const MOST_THREADS: usize = 64;
 
 /// The threads of a process that were given a lock or signalled, so that they are to be looked at again. No contract rests on them: a
 /// thread that is ready and isn't among these is found where all others wait.

@@ -12,24 +12,22 @@ ghost use Rattle.kernel_model.specs.Valid.{IsValid};
 
 use crate::kernel::Kernel;
 use abi_types::{Answer, Errno, ObjId, Reply, Who};
+use abi_types::flags::{FILETYPE_FIFO, FILETYPE_SOCKET_STREAM};
 use channel_calls::{Pair, PairKind, put_pair};
 use kernel_parts::release;
 use right_rules::{refused, success};
 use std::alloc::AllocError;
 
-// The numbers of the types that are made.
-const FIFO: u32 = 48;
-
-const SOCKET_STREAM: u32 = 130;
-
 // Which pair has this type.
 fn pair_of(kind: u32) -> Option<PairKind>
     ensures { option_map model_of result ≡ model.made_of kind }
 {
-    match kind {
-        FIFO => Some(PairKind::Fifo),
-        SOCKET_STREAM => Some(PairKind::Stream),
-        _ => None,
+    if kind == u32::from(FILETYPE_FIFO) {
+        Some(PairKind::Fifo)
+    } else if kind == u32::from(FILETYPE_SOCKET_STREAM) {
+        Some(PairKind::Stream)
+    } else {
+        None
     }
 }
 

@@ -7,13 +7,14 @@ use Rattle.std.specs.FinMap.{get, remove}
 use Rattle.std.specs.Prelude.{nat_lt, ◌^◌, ◌-◌}
 use Rattle.std.specs.FinMap.{len}
 use Rattle.abi_base.specs.declared.errno.Errno.TheVariants.{Again, Perm}
+use Rattle.abi_base.specs.declared.limits.TheConstants.{MOST_THREADS}
 use Rattle.abi_types.specs.declared.reply.Answer.TheVariants as answer
 use Rattle.abi_types.specs.declared.status.Status.TheVariants.{Exit}
 use Rattle.maps.specs.Closure.{len_same}
 use Rattle.maps.specs.Maps.{get-insert-same, get-remove-same, get-remove-other, insert-again}
 use Rattle.kernel_model.specs.Families.LockCalls.{word_reply}
 use Rattle.kernel_model.specs.Families.Locks.{release_of, released_threads, released_word, unlocked_own}
-use Rattle.kernel_model.specs.Families.ProcessCalls.{can_make_thread, end_updates, has_next_number, is_last_thread, left_if_last, left_in, left_updates, left_with, made_if, made_in, most_threads, thread_create, thread_exit}
+use Rattle.kernel_model.specs.Families.ProcessCalls.{can_make_thread, end_updates, has_next_number, is_last_thread, left_if_last, left_in, left_updates, left_with, made_if, made_in, thread_create, thread_exit}
 use Rattle.kernel_model.specs.Outcome.{Outcome, replies}
 use Rattle.kernel_model.specs.OwnChanges.{ends_one, makes_one, next_thread, with_next_thread, without_thread, AllowsChange, LeavesOwn}
 use Rattle.kernel_model.specs.Proper.{IsPlain, IsProper, IsUnset, AllCarryOn}
@@ -43,14 +44,14 @@ not_is false h = refl
 -- What it takes that a thread can make one more.
 pub record CanMake (t : ℕ) (own : ProcessState) : Type 0 where
   pub there : IsSome (get own.threads t)
-  pub few : nat_lt (len own.threads) most_threads ≡ true
+  pub few : nat_lt (len own.threads) MOST_THREADS ≡ true
   pub free : get own.threads (next_thread own) ≡ None
   pub small : nat_lt (next_thread own) (2 ^ 30 - 1) ≡ true
 
 pub can_is : (t : ℕ) (own : ProcessState) → can_make_thread t own ≡ true → CanMake t own
 can_is t own can =
-    let first = both_true (is_some (get own.threads t)) (nat_lt (len own.threads) most_threads && has_next_number own) can in
-    let second = both_true (nat_lt (len own.threads) most_threads) (has_next_number own) first.1 in
+    let first = both_true (is_some (get own.threads t)) (nat_lt (len own.threads) MOST_THREADS && has_next_number own) can in
+    let second = both_true (nat_lt (len own.threads) MOST_THREADS) (has_next_number own) first.1 in
     let third = both_true (not (is_some (get own.threads (next_thread own)))) (nat_lt (next_thread own) (2 ^ 30 - 1)) second.1 in
     record {
       there = first.0;

@@ -15,6 +15,7 @@ use Rattle.std.specs.FinMap.{empty, empty_of_len, get, get-empty, len, len-empty
 use Rattle.clock_random.specs.Random.{random_bytes, words_of}
 use Rattle.abi_base.specs.declared.errno.Errno.{Errno}
 use Rattle.abi_base.specs.declared.errno.Errno.TheVariants.{Again, Nomem, Perm, Success}
+use Rattle.abi_base.specs.declared.limits.TheConstants.{MOST_THREADS}
 use Rattle.abi_structures.specs.declared.structures.ThreadAttr.{ThreadAttr}
 use Rattle.abi_types.specs.declared.call.Call.{Call}
 use Rattle.abi_types.specs.declared.call.Call.TheVariants.{ClockResGet, ClockTimeGet, ProcExit, RandomGet, ThreadCreate, ThreadExit, ThreadYield}
@@ -31,7 +32,7 @@ use Rattle.kernel_model.specs.Calls.{meaning_of, takes_memory}
 use Rattle.kernel_model.specs.Families.ClockCalls.{can_draw, drawn_by, drawn_if, is_real, random_reply, time_of}
 use Rattle.kernel_model.specs.Families.LockWords.{holding_of_low, read_by, unheld, written_by}
 use Rattle.kernel_model.specs.Families.Locks.{hands_on, leaves, refuses, release_as, release_of, released_word, unlocked_own}
-use Rattle.kernel_model.specs.Families.ProcessCalls.{can_make_thread, end_updates, has_next_number, is_last_thread, left_in, left_with, made_if, made_in, most_threads}
+use Rattle.kernel_model.specs.Families.ProcessCalls.{can_make_thread, end_updates, has_next_number, is_last_thread, left_in, left_with, made_if, made_in}
 use Rattle.kernel_model.specs.Outcome.{Outcome, replies}
 use Rattle.kernel_model.specs.OwnChanges.{drawn_more, is_success, next_thread, with_next_thread, without_thread}
 use Rattle.kernel_model.specs.PollLaws.{shown}
@@ -130,10 +131,10 @@ next_is_free S p own valid there =
     ] refl
 
 can_make : (S : State) (who : Who) (own : ProcessState) → IsValid S → IsCaller S who own
-    → can_make_thread who.tid own ≡ (nat_lt (len own.threads) most_threads && nat_lt (next_thread own) (2 ^ 30 - 1))
+    → can_make_thread who.tid own ≡ (nat_lt (len own.threads) MOST_THREADS && nat_lt (next_thread own) (2 ^ 30 - 1))
 can_make S who own valid caller =
-    ap (λ b. b && (nat_lt (len own.threads) most_threads && has_next_number own)) caller.1
-    ∙ ap (λ b. nat_lt (len own.threads) most_threads && (not b && nat_lt (next_thread own) (2 ^ 30 - 1))) (next_is_free S who.pid own valid caller.0)
+    ap (λ b. b && (nat_lt (len own.threads) MOST_THREADS && has_next_number own)) caller.1
+    ∙ ap (λ b. nat_lt (len own.threads) MOST_THREADS && (not b && nat_lt (next_thread own) (2 ^ 30 - 1))) (next_is_free S who.pid own valid caller.0)
 
 few_make : (a b : Bool) → a ≡ true → b ≡ true → (a && b) ≡ true
 few_make true true first second = refl
@@ -151,14 +152,14 @@ threads_are_few = record {
       create_is constants S who attributes own valid caller.0
       ∙ ap (λ b. (made_if b who.pid own).answer)
       (can_make S who own valid caller
-      ∙ few_make (nat_lt (len own.threads) most_threads) (nat_lt (next_thread own) (2 ^ 30 - 1)) (lt-ltb (len own.threads) most_threads few)
+      ∙ few_make (nat_lt (len own.threads) MOST_THREADS) (nat_lt (next_thread own) (2 ^ 30 - 1)) (lt-ltb (len own.threads) MOST_THREADS few)
       (lt-ltb (next_thread own) (2 ^ 30 - 1) small));
   refused = λ constants S who attributes own valid caller many.
       create_is constants S who attributes own valid caller.0
       ∙ ap (λ b. (made_if b who.pid own).answer)
       (can_make S who own valid caller
-      ∙ and_false (nat_lt (len own.threads) most_threads) (nat_lt (next_thread own) (2 ^ 30 - 1)) (elim many [
-        | inl all ↦ inl (le-ltb (len own.threads) most_threads all)
+      ∙ and_false (nat_lt (len own.threads) MOST_THREADS) (nat_lt (next_thread own) (2 ^ 30 - 1)) (elim many [
+        | inl all ↦ inl (le-ltb (len own.threads) MOST_THREADS all)
         | inr spent ↦ inr (le-ltb (next_thread own) (2 ^ 30 - 1) spent)
       ]));
 }
@@ -171,7 +172,7 @@ thread_is_made constants S who attributes reply T valid step success =
     (λ own there can given is done. record {
       own = own;
       caller = (there, can.there);
-      few = ltb-true (len own.threads) most_threads can.few;
+      few = ltb-true (len own.threads) MOST_THREADS can.few;
       number = same_reply given _ is;
       leaves = own_left S who.pid own (with_next_thread own) there (thread_grows own who.tid can.there) valid;
     })) step success

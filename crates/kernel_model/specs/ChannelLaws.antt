@@ -4,6 +4,7 @@ use Rattle.std.specs.Prelude.{◌≡◌, ◌≢◌, ◌↔◌, ◌⊎◌, ⊤, �
 use Rattle.std.specs.FinMap.{get}
 use Rattle.std.specs.List.{AllByRecursion}
 use Rattle.abi_base.specs.declared.errno.Errno.TheVariants.{Again, Pipe, Success}
+use Rattle.abi_base.specs.declared.flags.TheConstants.{FDFLAG_NONBLOCK, SOCK_RECV_WAITALL}
 use Rattle.abi_types.specs.declared.call.Call.TheVariants.{FdRead, FdWrite, SockRecv, SockSend}
 use Rattle.abi_types.specs.declared.call.Call.{Call}
 use Rattle.abi_types.specs.declared.constants.Constants.{Constants}
@@ -99,35 +100,35 @@ pub record HasEnd (S : State) (who : Who) (call : Call) (fd : ℕ) (reads writes
   pub there : get table fd ≡ Some d
   pub opened : get S.opens d.id ≡ Some (End reads writes flags)
 
--- A read of an end with nothing to read waits, or with NONBLOCK (4) answers AGAIN; where something waits, or nothing more can come, it answers
+-- A read of an end with nothing to read waits, or with NONBLOCK answers AGAIN; where something waits, or nothing more can come, it answers
 -- what there is.
 abbrev pub ReadsAnswer : Type 0
 ReadsAnswer =
     (constants : Constants) (S : State) (who : Who) (fd n c flags : ℕ) (writes : Option ℕ) (channel : Channel)
     → HasEnd S who (FdRead fd n) fd (Some c) writes flags → get S.chans c ≡ Some channel
-    → (must_wait n channel ≡ true → bit_and flags 4 ≡ 0 → step_answer constants S who (FdRead fd n) ≡ answer.Parked Zero)
-    × (must_wait n channel ≡ true → bit_and flags 4 ≢ 0 → step_answer constants S who (FdRead fd n) ≡ answer.Reply (refused Again))
+    → (must_wait n channel ≡ true → bit_and flags FDFLAG_NONBLOCK ≡ 0 → step_answer constants S who (FdRead fd n) ≡ answer.Parked Zero)
+    × (must_wait n channel ≡ true → bit_and flags FDFLAG_NONBLOCK ≢ 0 → step_answer constants S who (FdRead fd n) ≡ answer.Reply (refused Again))
     × (must_wait n channel ≡ false → step_answer constants S who (FdRead fd n) ≡ answer.Reply (content (pull n channel).bytes))
 
--- A receive from a socket with nothing to read waits, and so does one of all bytes (WAITALL, 16) while more must come; with NONBLOCK on the
+-- A receive from a socket with nothing to read waits, and so does one of all bytes (WAITALL) while more must come; with NONBLOCK on the
 -- socket it answers AGAIN. Where something waits, or nothing more can come, a receive that isn't of all bytes doesn't wait.
 abbrev pub ReceivesAnswer : Type 0
 ReceivesAnswer =
     (constants : Constants) (S : State) (who : Who) (fd n room flags c w mode : ℕ) (channel : Channel)
     → HasEnd S who (SockRecv fd n room flags) fd (Some c) (Some w) mode → get S.chans c ≡ Some channel
-    → (must_wait n channel ≡ true → bit_and mode 4 ≡ 0 → step_answer constants S who (SockRecv fd n room flags) ≡ answer.Parked Zero)
-    × (must_wait n channel ≡ true → bit_and mode 4 ≢ 0 → step_answer constants S who (SockRecv fd n room flags) ≡ answer.Reply (refused Again))
-    × (must_wait_for_all n channel ≡ true → bit_and flags 16 ≢ 0 → bit_and mode 4 ≡ 0
+    → (must_wait n channel ≡ true → bit_and mode FDFLAG_NONBLOCK ≡ 0 → step_answer constants S who (SockRecv fd n room flags) ≡ answer.Parked Zero)
+    × (must_wait n channel ≡ true → bit_and mode FDFLAG_NONBLOCK ≢ 0 → step_answer constants S who (SockRecv fd n room flags) ≡ answer.Reply (refused Again))
+    × (must_wait_for_all n channel ≡ true → bit_and flags SOCK_RECV_WAITALL ≢ 0 → bit_and mode FDFLAG_NONBLOCK ≡ 0
     → step_answer constants S who (SockRecv fd n room flags) ≡ answer.Parked Zero)
-    × (must_wait n channel ≡ false → bit_and flags 16 ≡ 0 → is_parked (step_answer constants S who (SockRecv fd n room flags)) ≡ false)
+    × (must_wait n channel ≡ false → bit_and flags SOCK_RECV_WAITALL ≡ 0 → is_parked (step_answer constants S who (SockRecv fd n room flags)) ≡ false)
 
 -- What a send of a byte at least, by this reply, answers on a channel: where nothing more can be sent PIPE; where there is no room for a byte, or
 -- not for so many descriptors, it waits, or with NONBLOCK answers AGAIN; and else it says how many bytes were sent.
 abbrev pub AnswersSend : (ℕ → Reply) → ℕ → ℕ → ℕ → Channel → Answer → Type 0
 AnswersSend reply size count mode channel given =
     (is_hung channel ≡ true → given ≡ answer.Reply (refused Pipe))
-    × (is_hung channel ≡ false → has_room count channel ≡ false → bit_and mode 4 ≡ 0 → given ≡ answer.Parked Zero)
-    × (is_hung channel ≡ false → has_room count channel ≡ false → bit_and mode 4 ≢ 0 → given ≡ answer.Reply (refused Again))
+    × (is_hung channel ≡ false → has_room count channel ≡ false → bit_and mode FDFLAG_NONBLOCK ≡ 0 → given ≡ answer.Parked Zero)
+    × (is_hung channel ≡ false → has_room count channel ≡ false → bit_and mode FDFLAG_NONBLOCK ≢ 0 → given ≡ answer.Reply (refused Again))
     × (is_hung channel ≡ false → has_room count channel ≡ true → given ≡ answer.Reply (reply (min size (room channel))))
 
 -- So do a write to an end of channels and a send to a socket.

@@ -5,7 +5,6 @@ pub mod LockWords
 pub mod Locks
 pub mod Events
 pub mod LockCalls
-pub mod FileTypes
 pub mod DescriptorCalls
 pub mod FileMeaning
 pub mod FilePaths

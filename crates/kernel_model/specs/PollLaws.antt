@@ -7,6 +7,7 @@ use Rattle.std.specs.Prelude.{◌≡◌, ◌≢◌, ◌↔◌, ◌⊎◌, ⊤, �
 use Rattle.std.specs.FinMap.{get}
 use Rattle.abi_base.specs.Signal.{number_of as signal_number}
 use Rattle.abi_base.specs.declared.errno.Errno.TheVariants.{Success}
+use Rattle.abi_base.specs.declared.flags.TheConstants.{CLOCK_REALTIME, EVENT_FD_READWRITE_HANGUP, SUBSCRIPTION_CLOCK_ABSTIME}
 use Rattle.abi_structures.specs.Events.{number_of as type_number, type_of}
 use Rattle.abi_structures.specs.declared.events.Event.{Event}
 use Rattle.abi_structures.specs.declared.events.Subscription.{Subscription}
@@ -40,12 +41,12 @@ use Rattle.kernel_model.specs.Wakes.{is_ready}
 
 -- what a clock shows at a moment: REALTIME, which is 3, the time since 1970, and the other one that since the run began
 abbrev pub shown : Constants → ℕ → ℕ → ℕ
-shown constants clock now = if clock == 3 then constants.epoch + now else now
+shown constants clock now = if clock == CLOCK_REALTIME then constants.epoch + now else now
 
--- The time of a subscription has come at this moment: with ABSTIME, which is 1, the clock shows the timeout or more, and without it as much
+-- The time of a subscription has come at this moment: with ABSTIME the clock shows the timeout or more, and without it as much
 -- time as the timeout has passed since the call was made.
 abbrev pub HasCome : Constants → ℕ → ℕ → ℕ → ℕ → ℕ → Type 0
-HasCome constants since clock timeout flags now = MatchBool (flags == 1) (timeout ≤ shown constants clock now) (since + timeout ≤ now)
+HasCome constants since clock timeout flags now = MatchBool (flags == SUBSCRIPTION_CLOCK_ABSTIME) (timeout ≤ shown constants clock now) (since + timeout ≤ now)
 
 -- a poll of one clock
 abbrev pub clock_call : ℕ → ℕ → ℕ → ℕ → ℕ → Call
@@ -133,9 +134,9 @@ IsReady constants S table since now what = ClockHasCome constants since now what
 
 -- ---- what its event tells
 
--- HANGUP, which is 1, is set exactly where this holds
+-- HANGUP is set exactly where this holds
 abbrev pub HangsUpWhere : Type 0 → ℕ → Type 0
-HangsUpWhere P flags = (P × (flags ≡ 1)) ⊎ ((¬ P) × (flags ≡ 0))
+HangsUpWhere P flags = (P × (flags ≡ EVENT_FD_READWRITE_HANGUP)) ⊎ ((¬ P) × (flags ≡ 0))
 
 -- so many bytes, with HANGUP exactly where this holds
 pub record TellsBytes (nbytes : ℕ) (hung : Type 0) (event : Event) : Type 0 where

@@ -4,6 +4,7 @@ use Rattle.std.specs.Prelude.{◌≡◌, ◌≢◌, ◌⊎◌, ℕ, ◌+◌, ◌
 use Rattle.std.specs.FinMap.{get, insert, len, remove}
 use Rattle.clock_random.specs.Random.{random_bytes, words_of}
 use Rattle.abi_base.specs.declared.errno.Errno.TheVariants.{Again, Perm, Success}
+use Rattle.abi_base.specs.declared.limits.TheConstants.{MOST_THREADS}
 use Rattle.abi_structures.specs.declared.structures.ThreadAttr.{ThreadAttr}
 use Rattle.abi_types.specs.declared.call.Call.TheVariants.{ClockResGet, ClockTimeGet, ProcExit, RandomGet, ThreadCreate, ThreadExit, ThreadYield}
 use Rattle.abi_types.specs.declared.constants.Constants.{Constants}
@@ -35,17 +36,17 @@ IsCaller S who own = (get S.processes who.pid ≡ Some own) × IsSome (get own.t
 -- has numbered. Else it answers AGAIN.
 pub record ThreadsAreFew : Type 0 where
   pub made : (constants : Constants) (S : State) (who : Who) (attributes : ThreadAttr) (own : ProcessState) → IsValid S → IsCaller S who own
-      → len own.threads < 64 → own.counts.threads + 1 < 2 ^ 30 - 1
+      → len own.threads < MOST_THREADS → own.counts.threads + 1 < 2 ^ 30 - 1
       → step_answer constants S who (ThreadCreate attributes) ≡ answer.Reply (success (own.counts.threads + 1) 0)
   pub refused : (constants : Constants) (S : State) (who : Who) (attributes : ThreadAttr) (own : ProcessState) → IsValid S → IsCaller S who own
-      → (64 ≤ len own.threads) ⊎ (2 ^ 30 - 1 ≤ own.counts.threads + 1)
+      → (MOST_THREADS ≤ len own.threads) ⊎ (2 ^ 30 - 1 ≤ own.counts.threads + 1)
       → step_answer constants S who (ThreadCreate attributes) ≡ answer.Reply (refused Again)
 
 -- One that succeeds has such a process. It leaves it a thread more, which runs, and that it has numbered one more; nothing else is changed.
 pub record IsThreadMade (S : State) (who : Who) (reply : Reply) (T : State) : Type 0 where
   pub own : ProcessState
   pub caller : IsCaller S who own
-  pub few : len own.threads < 64
+  pub few : len own.threads < MOST_THREADS
   pub number : reply ≡ success (own.counts.threads + 1) 0
   pub leaves : T
       ≡ with_own S who.pid

@@ -22,7 +22,8 @@ use crate::numbers::next_number;
 use crate::start::{LAUNCH_PROCESS, single};
 use crate::waiting::deadline_at;
 use abi_types::{
-    Answer, Call, Constants, Counts, Errno, ObjId, Payload, Pid, Stage, Thread, Tid, Who,
+    Answer, Call, Constants, Counts, Errno, MOST_THREADS, ObjId, Payload, Pid, Stage, Thread, Tid,
+    Who,
 };
 use clock_random::random_bytes;
 use fd_table::FdTable;
@@ -33,9 +34,6 @@ use poll_set::Surroundings;
 use right_rules::{refused, success, success_with};
 use std::alloc::{AllocError, Global};
 use std::marker::Model;
-
-// How many live threads a process may have.
-const MOST_THREADS: usize = 64;
 
 // Each thread's number is less than this one, so that the words of locks have room for it.
 const THREAD_LIMIT: u32 = (1 << 30) - 1;

@@ -10,6 +10,7 @@ ghost use Rattle.kernel_model.specs.Release.{count_in};
 
 use abi_base::MOST_DESCRIPTORS;
 use abi_types::{DescriptorChange, Errno, FdStat, OpenKind, Reply};
+use abi_types::flags::{FDSTAT_FLAGS, FDSTAT_RIGHTS};
 use fd_table::FdTable;
 use object_store::Objects;
 use right_rules::{refused, success};
@@ -111,11 +112,11 @@ fn stat_put(table: &mut FdTable, objects: &mut Objects, fd: u32, stat: &FdStat, 
     let Some(kind) = objects.get(descriptor.id) else {
         return refused(Errno::Badf);
     };
-    if flags & 1 != 0 {
+    if flags & FDSTAT_FLAGS != 0 {
         let kind = with_flags(*kind, stat.flags);
         objects.set(descriptor.id, kind);
     }
-    if flags & 2 != 0 {
+    if flags & FDSTAT_RIGHTS != 0 {
         let base = descriptor.base.meet(stat.base);
         let inheriting = descriptor.inheriting.meet(stat.inheriting);
         table.lower(fd, base, inheriting);

@@ -6,12 +6,7 @@ ghost use Rattle.kernel_model.specs.Families.WaitCalls as model;
 ghost use Rattle.poll_set.specs.Polls.{poll_deadline};
 
 use abi_types::{Constants, Subscription, What};
-
-/// The clock that is the time since 1970.
-pub const REAL_TIME: u32 = 3;
-
-// The flag of a time that is one of the clock, and not counted from the call on.
-const ABSOLUTE: u16 = 1;
+use abi_types::flags::{CLOCK_REALTIME, SUBSCRIPTION_CLOCK_ABSTIME};
 
 // A deadline at this moment or later doesn't count.
 const NEVER: u64 = 1 << 62;
@@ -38,7 +33,7 @@ pub fn is_due(now: u64, until: Option<u64>) -> bool
 fn moment_of(constants: &Constants, clock: u32, time: u64) -> u64
     ensures { result ≡ model.moment_of constants.now clock time }
 {
-    if clock == REAL_TIME {
+    if clock == CLOCK_REALTIME {
         time.saturating_sub(constants.epoch)
     } else {
         time
@@ -55,7 +50,7 @@ fn clock_deadline(
 ) -> Option<u64>
     ensures { result ≡ deadlines.soon (Some (model.clock_deadline constants.now since clock timeout flags)) }
 {
-    if flags == ABSOLUTE {
+    if flags == SUBSCRIPTION_CLOCK_ABSTIME {
         return soon(Some(moment_of(constants, clock, timeout)));
     }
     soon(since.checked_add(timeout))

@@ -3,9 +3,7 @@ ghost use Rattle.std.specs.Prelude.{◌≡◌, option_copied};
 ghost use Rattle.kernel_model.specs.Families.Polls as model;
 
 use abi_types::{Event, EventType, Status};
-
-// The flag of an end whose other side is shut or gone.
-const HANGUP: u16 = 1;
+use abi_types::flags::EVENT_FD_READWRITE_HANGUP;
 
 /// An event of this type without an error, for the subscription with this number of the caller's.
 pub fn event_of(userdata: u64, kind: EventType) -> Event
@@ -28,7 +26,7 @@ pub(crate) fn bytes_event(userdata: u64, kind: EventType, nbytes: u64, hung: boo
 {
     Event {
         nbytes,
-        flags: if hung { HANGUP } else { 0 },
+        flags: if hung { EVENT_FD_READWRITE_HANGUP } else { 0 },
         ..event_of(userdata, kind)
     }
 }

@@ -12,6 +12,10 @@ ghost use Rattle.right_rules.specs.declared.needs.Needs.TheVariants as needs;
 
 use crate::rows::{asking_row, base_row, both, either_row, where_set};
 use abi_types::{Call, FdStat, Needed, Rights, Subscription};
+use abi_types::flags::{
+    FDSTAT_FLAGS, FDSTAT_RIGHTS, FILESTAT_SIZE, FILESTAT_TIMES, MAP_ANON, O_CREAT, O_TRUNC,
+    PROT_EXEC, WHENCE_CUR,
+};
 
 /// A view of the descriptors that a call names, in the order of its arguments, and of the rights that it needs of them.
 #[derive(Clone, Copy)]
@@ -43,7 +47,7 @@ fn base<'a>(fd: u32, rights: Rights) -> Needs<'a>
 fn seek_row(fd: u32, offset: u64, whence: u32) -> Needed
     ensures { result ≡ seek_row fd offset whence }
 {
-    if offset == 0 && whence == 1 {
+    if offset == 0 && whence == WHENCE_CUR {
         either_row(fd, Rights::FD_TELL, Rights::FD_SEEK)
     } else {
         base_row(fd, Rights::FD_SEEK)
@@ -55,10 +59,10 @@ fn stat_put_row(fd: u32, stat: &FdStat, flags: u32) -> Needed
     ensures { result ≡ stat_put_row fd stat.now flags }
 {
     let base = both(
-        where_set(flags, 1, Rights::FD_STAT_PUT_FLAGS),
-        where_set(flags, 2, stat.base),
+        where_set(flags, FDSTAT_FLAGS, Rights::FD_STAT_PUT_FLAGS),
+        where_set(flags, FDSTAT_RIGHTS, stat.base),
     );
-    asking_row(fd, base, where_set(flags, 2, stat.inheriting))
+    asking_row(fd, base, where_set(flags, FDSTAT_RIGHTS, stat.inheriting))
 }
 
 // What file_open needs of the directory where it begins.
@@ -67,11 +71,11 @@ fn open_row(fd: u32, oflags: u32, stat: &FdStat) -> Needed
 {
     let base = both(
         Rights::FILE_OPEN,
-        where_set(oflags, 1, Rights::FILE_CREATE_FILE),
+        where_set(oflags, O_CREAT, Rights::FILE_CREATE_FILE),
     );
     let inheriting = both(
         both(stat.base, stat.inheriting),
-        where_set(oflags, 8, Rights::FILE_STAT_FPUT_SIZE),
+        where_set(oflags, O_TRUNC, Rights::FILE_STAT_FPUT_SIZE),
     );
     asking_row(fd, base, inheriting)
 }
@@ -81,8 +85,8 @@ fn stat_fput_rights(flags: u32) -> Rights
     ensures { result ≡ both (where_set flags 16 FILE_STAT_FPUT_SIZE) (where_set flags 15 FILE_STAT_FPUT_TIMES) }
 {
     both(
-        where_set(flags, 16, Rights::FILE_STAT_FPUT_SIZE),
-        where_set(flags, 15, Rights::FILE_STAT_FPUT_TIMES),
+        where_set(flags, FILESTAT_SIZE, Rights::FILE_STAT_FPUT_SIZE),
+        where_set(flags, FILESTAT_TIMES, Rights::FILE_STAT_FPUT_TIMES),
     )
 }
 
@@ -91,7 +95,7 @@ fn map_row(fd: u32, prot: u32) -> Needed
     ensures { result ≡ map_row fd prot }
 {
     let read = both(Rights::MEM_MAP, Rights::FD_READ);
-    base_row(fd, both(read, where_set(prot, 1, Rights::MEM_MAP_EXEC)))
+    base_row(fd, both(read, where_set(prot, PROT_EXEC, Rights::MEM_MAP_EXEC)))
 }
 
 /// What the call needs of its descriptors.
@@ -136,7 +140,7 @@ pub fn needs_of(call: &Call) -> Needs<'_>
         Call::FileSymlink { fd, .. } => base(*fd, Rights::FILE_SYMLINK),
         Call::FileUnlink { fd, .. } => base(*fd, Rights::FILE_UNLINK),
         // A mapping of zeros.
-        Call::MemMap { flags, .. } if *flags & 1 == 1 => Needs::Nothing,
+        Call::MemMap { flags, .. } if *flags & MAP_ANON == MAP_ANON => Needs::Nothing,
         Call::MemMap { fd, prot, .. } => Needs::One(map_row(*fd, *prot)),
         Call::Poll { subscriptions } => Needs::Waited(subscriptions.as_slice()),
         Call::ProcExec { fd, fds, .. } => {

@@ -2,6 +2,7 @@
 use Rattle.std.specs.Prelude.{ℕ, ◌==◌, ◌&&◌, ◌||◌, bit_and, nat_lt, not, Bool, true, false, List, [], ◌∷◌, ◌++◌, length, take, Option, None, Some, if◌then◌else◌}
 use Rattle.std.specs.FinMap.{get, insert}
 use Rattle.abi_base.specs.declared.errno.Errno.TheVariants.{Again, Badf, Mfile, Notsock, Pipe}
+use Rattle.abi_base.specs.declared.flags.TheConstants.{FDFLAG_NONBLOCK, SHUT_RD, SHUT_WR, SOCK_RECV_FDS_TRUNCATED, SOCK_RECV_PEEK, SOCK_RECV_WAITALL}
 use Rattle.abi_types.specs.declared.descriptor.Descriptor.{Descriptor}
 use Rattle.abi_types.specs.declared.open_kind.OpenKind.{OpenKind}
 use Rattle.abi_types.specs.declared.open_kind.OpenKind.TheVariants.{End}
@@ -19,9 +20,9 @@ use Rattle.kernel_model.specs.View.{View}
 
 -- ---- waiting
 
--- whether calls on an end of these flags answer AGAIN in place of waiting (NONBLOCK, 4)
+-- whether calls on an end of these flags answer AGAIN in place of waiting (NONBLOCK)
 abbrev pub is_nonblocking : ℕ → Bool
-is_nonblocking flags = not (bit_and flags 4 == 0)
+is_nonblocking flags = not (bit_and flags FDFLAG_NONBLOCK == 0)
 
 -- the thread waits, or the answer is AGAIN
 abbrev pub waits_unless : Bool → Outcome
@@ -96,16 +97,16 @@ abbrev pub install : Table → List Descriptor → Option Installed
 install table [] = Some (record { fds = []; table = table })
 install table (d ∷ ds) = where_free (lowest_free table) (λ number. put_first number (install (insert table number d) ds))
 
--- flags of a receive: PEEK (4), that nothing is taken, and WAITALL (16), that all the bytes are waited for
+-- flags of a receive: PEEK, that nothing is taken, and WAITALL, that all the bytes are waited for
 abbrev pub peeks : ℕ → Bool
-peeks flags = not (bit_and flags 4 == 0)
+peeks flags = not (bit_and flags SOCK_RECV_PEEK == 0)
 
 abbrev pub waits_for_all : ℕ → Bool
-waits_for_all flags = not (bit_and flags 16 == 0)
+waits_for_all flags = not (bit_and flags SOCK_RECV_WAITALL == 0)
 
--- FDS_TRUNCATED (1) is the result where more descriptors come than there is room for
+-- FDS_TRUNCATED is the result where more descriptors come than there is room for
 abbrev pub truncated : ℕ → List Descriptor → ℕ
-truncated room ds = if nat_lt room (length ds) then 1 else 0
+truncated room ds = if nat_lt room (length ds) then SOCK_RECV_FDS_TRUNCATED else 0
 
 abbrev pub received_reply : List ℕ → List ℕ → ℕ → Reply
 received_reply bytes fds flags = record (success 0 0) { payload = Received bytes fds flags }
@@ -161,14 +162,14 @@ abbrev pub shut_if : Bool → (Channel → Channel) → ℕ → Option Channel �
 shut_if true shut c (Some channel) = set_chan c (shut channel) ∷ []
 shut_if test shut c channel = []
 
--- the end is shut: with RD (1) for what comes, which is dropped, and with WR (2) for what it sends
+-- the end is shut: with RD for what comes, which is dropped, and with WR for what it sends
 abbrev pub shut_open : View → ℕ → Option OpenKind → Outcome
 shut_open v how None = replies (refused Badf)
 shut_open v how (Some (End (Some reads) (Some writes) flags)) = record {
   answer = answer.Reply (success 0 0);
   updates =
-      shut_if (not (bit_and how 1 == 0)) with_reader_shut reads (v.channel reads)
-      ++ shut_if (not (bit_and how 2 == 0)) with_writer_shut writes (v.channel writes);
+      shut_if (not (bit_and how SHUT_RD == 0)) with_reader_shut reads (v.channel reads)
+      ++ shut_if (not (bit_and how SHUT_WR == 0)) with_writer_shut writes (v.channel writes);
 }
 shut_open v how (Some other) = replies (refused Notsock)
 

@@ -2,6 +2,7 @@
 use Rattle.std.specs.Prelude.{ℕ, ◌+◌, ◌^◌, ◌==◌, nat_lt, Bool, true, false, List, [], ◌∷◌, Option, None, Some, if◌then◌else◌}
 use Rattle.clock_random.specs.Random.{random_bytes, words_of}
 use Rattle.abi_base.specs.declared.errno.Errno.TheVariants.{Again}
+use Rattle.abi_base.specs.declared.flags.TheConstants.{CLOCK_REALTIME}
 use Rattle.abi_types.specs.declared.constants.Constants.{Constants}
 use Rattle.abi_types.specs.declared.reply.Answer.TheVariants as answer
 use Rattle.abi_types.specs.declared.reply.Payload.TheVariants.{Content}
@@ -20,7 +21,7 @@ real_time constants moment = moment + constants.epoch
 
 -- whether the clock is REALTIME (3), the time since 1970
 abbrev pub is_real : ℕ → Bool
-is_real clock = clock == 3
+is_real clock = clock == CLOCK_REALTIME
 
 -- What a clock shows at a moment: REALTIME the time since 1970, and MONOTONIC (1) the moment. No program's call has another clock.
 abbrev pub time_of : Constants → ℕ → ℕ → ℕ

@@ -6,6 +6,7 @@ use Rattle.abi_base.specs.declared.limits.TheConstants.{MOST_DESCRIPTORS}
 use Rattle.abi_base.specs.declared.rights.Rights.{Rights}
 use Rattle.abi_base.specs.declared.rights.TheConstants.Rights.{FD_DATASYNC, FD_STAT_PUT_FLAGS, FD_SYNC}
 use Rattle.abi_base.specs.Rights.{meet_of}
+use Rattle.abi_base.specs.declared.flags.TheConstants.{FDSTAT_FLAGS, FDSTAT_RIGHTS, FILETYPE_CHARACTER_DEVICE, FILETYPE_DIRECTORY, FILETYPE_FIFO, FILETYPE_PROCESS, FILETYPE_REGULAR_FILE, FILETYPE_SOCKET_STREAM}
 use Rattle.abi_structures.specs.declared.structures.FdStat.{FdStat}
 use Rattle.abi_types.specs.declared.descriptor.Descriptor.{Descriptor}
 use Rattle.abi_types.specs.declared.needed.Needed.{Needed}
@@ -13,7 +14,6 @@ use Rattle.abi_types.specs.declared.open_kind.OpenKind.{OpenKind}
 use Rattle.abi_types.specs.declared.open_kind.OpenKind.TheVariants.{File, Directory, End, Terminal, Process}
 use Rattle.abi_types.specs.declared.reply.Answer.TheVariants as answer
 use Rattle.abi_types.specs.declared.reply.Payload.TheVariants as payload
-use Rattle.kernel_model.specs.Families.FileTypes.{character_device, directory, fifo, process, regular_file, stream_socket}
 use Rattle.kernel_model.specs.Meaning.{Meaning, answering}
 use Rattle.kernel_model.specs.Outcome.{Outcome, replies}
 use Rattle.kernel_model.specs.OwnChanges.{keeps_own}
@@ -125,12 +125,12 @@ fd_replace from to = record {
 
 -- the number of an open's type
 abbrev pub type_number : OpenKind → ℕ
-type_number (File node offset flags) = regular_file
-type_number (Directory node flags) = directory
-type_number (End (Some reads) (Some writes) flags) = stream_socket
-type_number (End reads writes flags) = fifo
-type_number (Terminal which flags) = character_device
-type_number (Process p object) = process
+type_number (File node offset flags) = FILETYPE_REGULAR_FILE
+type_number (Directory node flags) = FILETYPE_DIRECTORY
+type_number (End (Some reads) (Some writes) flags) = FILETYPE_SOCKET_STREAM
+type_number (End reads writes flags) = FILETYPE_FIFO
+type_number (Terminal which flags) = FILETYPE_CHARACTER_DEVICE
+type_number (Process p object) = FILETYPE_PROCESS
 
 -- an open's flags; a process has none
 abbrev pub flags_of : OpenKind → ℕ
@@ -172,10 +172,10 @@ fd_stat_get fd = record {
 
 -- ---- fd_stat_put
 
--- flags (1) are set by FD_STAT_PUT_FLAGS; rights (2) are lowered to those asked, which the descriptor has
+-- flags are set by FD_STAT_PUT_FLAGS; rights are lowered to those asked, which the descriptor has
 abbrev pub stat_put_row : ℕ → FdStat → ℕ → Needed
 stat_put_row fd stat flags =
-    asking_row fd (both (where_set flags 1 FD_STAT_PUT_FLAGS) (where_set flags 2 stat.base)) (where_set flags 2 stat.inheriting)
+    asking_row fd (both (where_set flags FDSTAT_FLAGS FD_STAT_PUT_FLAGS) (where_set flags FDSTAT_RIGHTS stat.base)) (where_set flags FDSTAT_RIGHTS stat.inheriting)
 
 -- the open with these flags
 abbrev pub with_flags : OpenKind → ℕ → OpenKind
@@ -196,14 +196,14 @@ lowered_to d stat = record d {
 abbrev pub update_where : ℕ → ℕ → Update → List Update
 update_where flags bit update = if bit_and flags bit == 0 then [] else update ∷ []
 
--- the open's flags (1) are set, and the descriptor's rights (2) are lowered
+-- the open's flags are set, and the descriptor's rights are lowered
 abbrev pub stat_set : ℕ → Table → ℕ → FdStat → ℕ → Descriptor → Option OpenKind → Outcome
 stat_set p table fd stat flags d None = replies (refused Badf)
 stat_set p table fd stat flags d (Some kind) = record {
   answer = answer.Reply (success 0 0);
   updates =
-      update_where flags 1 (set_open d.id (with_flags kind stat.flags))
-      ++ update_where flags 2 (set_table p (insert table fd (lowered_to d stat)));
+      update_where flags FDSTAT_FLAGS (set_open d.id (with_flags kind stat.flags))
+      ++ update_where flags FDSTAT_RIGHTS (set_table p (insert table fd (lowered_to d stat)));
 }
 
 abbrev pub stat_put : View → ℕ → Table → ℕ → FdStat → ℕ → Option Descriptor → Outcome

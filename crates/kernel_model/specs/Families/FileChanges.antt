@@ -3,6 +3,7 @@ use Rattle.std.specs.Prelude.{ℕ, ◌+◌, ◌==◌, max, bit_and, nat_lt, Bool
 use Rattle.std.specs.FinMap.{get}
 use Rattle.abi_base.specs.declared.errno.Errno.TheVariants.{Badf, Fbig}
 use Rattle.abi_base.specs.declared.rights.TheConstants.Rights.{FILE_ALLOCATE, FILE_STAT_FPUT_SIZE, FILE_STAT_FPUT_TIMES, FILE_STAT_PUT_TIMES}
+use Rattle.abi_base.specs.declared.flags.TheConstants.{FILESTAT_ATIM, FILESTAT_ATIM_NOW, FILESTAT_MTIM, FILESTAT_MTIM_NOW, FILESTAT_SIZE, FILESTAT_TIMES}
 use Rattle.abi_structures.specs.declared.structures.FileStat.{FileStat}
 use Rattle.abi_types.specs.declared.call.Lookup.{Lookup}
 use Rattle.abi_types.specs.declared.node.Node.{Node}
@@ -50,21 +51,21 @@ abbrev pub chosen : ℕ → ℕ → ℕ → ℕ → ℕ → ℕ → ℕ
 chosen flags give set_now given now old =
     if not (bit_and flags give == 0) then given else (if not (bit_and flags set_now == 0) then now else old)
 
--- the times by the flags: ATIM (1), ATIM_NOW (2), MTIM (4) and MTIM_NOW (8)
+-- the times by the flags: ATIM, ATIM_NOW, MTIM and MTIM_NOW
 abbrev pub times_put : ℕ → FileStat → ℕ → Times → Times
 times_put flags stat now times = record {
-  atim = chosen flags 1 2 stat.atim now times.atim;
-  mtim = chosen flags 4 8 stat.mtim now times.mtim;
+  atim = chosen flags FILESTAT_ATIM FILESTAT_ATIM_NOW stat.atim now times.atim;
+  mtim = chosen flags FILESTAT_MTIM FILESTAT_MTIM_NOW stat.mtim now times.mtim;
   ctim = now;
 }
 
 -- the times are set, where some of these flags is
 abbrev pub put_times : ℕ → FileStat → ℕ → Tree → ℕ → Tree
-put_times flags stat now t n = if bit_and flags 15 == 0 then t else retimed t n (times_put flags stat now)
+put_times flags stat now t n = if bit_and flags FILESTAT_TIMES == 0 then t else retimed t n (times_put flags stat now)
 
--- whether the flags have SIZE (16)
+-- whether the flags have SIZE
 abbrev pub has_size : ℕ → Bool
-has_size flags = not (bit_and flags 16 == 0)
+has_size flags = not (bit_and flags FILESTAT_SIZE == 0)
 
 -- the size is set, where that flag is
 abbrev pub put_size : ℕ → FileStat → ℕ → Tree → ℕ → Tree
@@ -128,10 +129,10 @@ put_open flags stat now t (Some (Directory node open_flags)) =
     if has_size flags then replies (refused Badf) else becomes_in node (put_times flags stat now t node)
 put_open flags stat now t _ = replies (refused Badf)
 
--- the size (16) is set by FILE_STAT_FPUT_SIZE, a time (1, 2, 4 or 8) by FILE_STAT_FPUT_TIMES
+-- the size is set by FILE_STAT_FPUT_SIZE, a time by FILE_STAT_FPUT_TIMES
 abbrev pub file_stat_fput : ℕ → FileStat → ℕ → Meaning
 file_stat_fput fd stat flags =
-    on_open (base_row fd (both (where_set flags 16 FILE_STAT_FPUT_SIZE) (where_set flags 15 FILE_STAT_FPUT_TIMES)))
+    on_open (base_row fd (both (where_set flags FILESTAT_SIZE FILE_STAT_FPUT_SIZE) (where_set flags FILESTAT_TIMES FILE_STAT_FPUT_TIMES)))
     (changing (put_open flags stat))
 
 -- ---- file_stat_put

@@ -3,6 +3,7 @@ use Rattle.std.specs.Prelude.{ℕ, ◌+◌, min, true, List, [], ◌∷◌, ◌+
 use Rattle.std.specs.FinMap.{get, entries}
 use Rattle.abi_base.specs.declared.errno.Errno.TheVariants.{Badf, Inval}
 use Rattle.abi_base.specs.declared.rights.TheConstants.Rights.{FILE_ADVISE, FILE_READDIR, FILE_READLINK, FILE_STAT_FGET, FILE_STAT_GET}
+use Rattle.abi_base.specs.declared.flags.TheConstants.{FILETYPE_DIRECTORY, FILETYPE_REGULAR_FILE, FILETYPE_SYMBOLIC_LINK}
 use Rattle.abi_layout.specs.Layout.{written}
 use Rattle.abi_layout.specs.Structures.{dirent_layout, dirent_values}
 use Rattle.abi_structures.specs.declared.structures.Dirent.{Dirent}
@@ -18,7 +19,6 @@ use Rattle.path_lookup.specs.declared.ends.WalkMode.TheVariants.{NoFollow}
 use Rattle.kernel_model.specs.Families.DescriptorCalls.{needing, type_number}
 use Rattle.kernel_model.specs.Families.FileMeaning.{FileMeaning, on_open}
 use Rattle.kernel_model.specs.Families.FilePaths.{by_path, lookup_mode}
-use Rattle.kernel_model.specs.Families.FileTypes.{directory, regular_file, symbolic_link}
 use Rattle.kernel_model.specs.Meaning.{Meaning}
 use Rattle.kernel_model.specs.Outcome.{Outcome, replies}
 use Rattle.kernel_model.specs.Reply.{content, refused, success}
@@ -35,9 +35,9 @@ file_advise fd = needing fd FILE_ADVISE
 
 -- the number of a node's type
 abbrev pub node_type : NodeKind → ℕ
-node_type (kind.File bytes) = regular_file
-node_type kind.Directory = directory
-node_type (kind.Link text) = symbolic_link
+node_type (kind.File bytes) = FILETYPE_REGULAR_FILE
+node_type kind.Directory = FILETYPE_DIRECTORY
+node_type (kind.Link text) = FILETYPE_SYMBOLIC_LINK
 
 -- how many bytes a file has, or the text of a symlink; a directory has none
 abbrev pub node_size : NodeKind → ℕ

@@ -1,6 +1,7 @@
 -- What calls make of an open whose offset they move: they read and write at it, or set it.
 use Rattle.std.specs.Prelude.{ℕ, ◌+◌, ◌-◌, ◌==◌, ◌^◌, bit_and, nat_lt, List, [], ◌∷◌, ◌++◌, length, Option, None, Some, if◌then◌else◌}
 use Rattle.abi_base.specs.declared.errno.Errno.TheVariants.{Badf, Fbig, Inval}
+use Rattle.abi_base.specs.declared.flags.TheConstants.{FDFLAG_APPEND, WHENCE_CUR, WHENCE_END, WHENCE_SET}
 use Rattle.abi_types.specs.declared.open_kind.OpenKind.{OpenKind}
 use Rattle.abi_types.specs.declared.open_kind.OpenKind.TheVariants.{File}
 use Rattle.abi_types.specs.declared.reply.Reply.{Reply}
@@ -38,9 +39,9 @@ read_on t node offset flags n = record {
   moved = Some (File node (offset + length (bytes_at t node offset n)) flags);
 }
 
--- the place where a file is written: with APPEND (1) its end, else the open's offset
+-- the place where a file is written: with APPEND its end, else the open's offset
 abbrev pub write_place : Tree → ℕ → ℕ → ℕ → ℕ
-write_place t node offset flags = if bit_and flags 1 == 0 then offset else length (bytes_of t node)
+write_place t node offset flags = if bit_and flags FDFLAG_APPEND == 0 then offset else length (bytes_of t node)
 
 -- the bytes are written at a place, and the offset is behind them then; no bytes leave it
 abbrev pub write_from : Tree → ℕ → ℕ → ℕ → ℕ → List ℕ → OffsetOutcome
@@ -70,9 +71,9 @@ offset_from place bits =
 -- where it leads: from the offset (whence 1) or from the file's end (2), or to the place that is given (3)
 abbrev pub sought : Tree → ℕ → ℕ → ℕ → ℕ → Option ℕ
 sought t node offset bits whence =
-    if whence == 1 then offset_from offset bits
-    else if whence == 2 then offset_from (length (bytes_of t node)) bits
-    else if whence == 3 then as_offset bits
+    if whence == WHENCE_CUR then offset_from offset bits
+    else if whence == WHENCE_END then offset_from (length (bytes_of t node)) bits
+    else if whence == WHENCE_SET then as_offset bits
     else None
 
 abbrev pub seek_to : ℕ → ℕ → Option ℕ → OffsetOutcome

@@ -3,6 +3,7 @@ use Rattle.std.specs.Prelude.{ℕ, ◌==◌, bit_and, nat_lt, not, true, List, [
 use Rattle.std.specs.Str.{is_utf8}
 use Rattle.abi_base.specs.declared.errno.Errno.{Errno}
 use Rattle.abi_base.specs.declared.errno.Errno.TheVariants.{Badf, Ilseq, Inval, Loop, NameTooLong, Noent, Notdir}
+use Rattle.abi_base.specs.declared.flags.TheConstants.{LOOKUP_SYMLINK_FOLLOW}
 use Rattle.abi_types.specs.declared.descriptor.Denial.TheVariants.{Outside}
 use Rattle.abi_types.specs.declared.open_kind.OpenKind.{OpenKind}
 use Rattle.abi_types.specs.declared.open_kind.OpenKind.TheVariants.{Directory}
@@ -71,9 +72,9 @@ outside_of (Ends end) = None
 outside_of (Fails errno) = None
 outside_of (LeadsOutside component) = Some component
 
--- lookup flags: with SYMLINK_FOLLOW (1) a symlink that is last is followed
+-- lookup flags: with SYMLINK_FOLLOW a symlink that is last is followed
 abbrev pub lookup_mode : ℕ → WalkMode
-lookup_mode flags = if bit_and flags 1 == 0 then NoFollow else Follow
+lookup_mode flags = if bit_and flags LOOKUP_SYMLINK_FOLLOW == 0 then NoFollow else Follow
 
 -- ---- what a call does where a path leads
 

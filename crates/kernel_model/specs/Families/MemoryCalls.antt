@@ -3,6 +3,7 @@ use Rattle.std.specs.Prelude.{ℕ, Bool, true, false, List, [], ◌∷◌, Optio
 use Rattle.abi_base.specs.declared.errno.Errno.{Errno}
 use Rattle.abi_base.specs.declared.errno.Errno.TheVariants.{Badf}
 use Rattle.abi_base.specs.declared.rights.TheConstants.Rights.{FD_READ, MEM_MAP, MEM_MAP_EXEC}
+use Rattle.abi_base.specs.declared.flags.TheConstants.{PROT_EXEC}
 use Rattle.abi_types.specs.Families.{is_anonymous}
 use Rattle.abi_types.specs.declared.needed.Needed.{Needed}
 use Rattle.abi_types.specs.declared.open_kind.OpenKind.{OpenKind}
@@ -58,7 +59,7 @@ mapping place length offset = record (looking (map_open place length offset)) {
 
 -- MEM_MAP and FD_READ, and with EXEC (1) MEM_MAP_EXEC
 abbrev pub map_row : ℕ → ℕ → Needed
-map_row fd prot = base_row fd (both (both MEM_MAP FD_READ) (where_set prot 1 MEM_MAP_EXEC))
+map_row fd prot = base_row fd (both (both MEM_MAP FD_READ) (where_set prot PROT_EXEC MEM_MAP_EXEC))
 
 -- with ANON the pages are zeros, and the descriptor isn't looked at
 abbrev pub mem_map : Place → ℕ → ℕ → ℕ → ℕ → ℕ → Meaning

@@ -3,6 +3,7 @@ use Rattle.std.specs.Prelude.{ℕ, ◌==◌, bit_and, not, Bool, List, [], ◌�
 use Rattle.abi_base.specs.declared.errno.Errno.{Errno}
 use Rattle.abi_base.specs.declared.errno.Errno.TheVariants.{Noent, Notdir, Notempty, Perm}
 use Rattle.abi_base.specs.declared.rights.TheConstants.Rights.{FILE_UNLINK}
+use Rattle.abi_base.specs.declared.flags.TheConstants.{UNLINK_REMOVEDIR}
 use Rattle.abi_types.specs.declared.node.Times.{Times}
 use Rattle.tree_model.specs.Changes.{first_fault, is_absent, unlinked, unlink_faults}
 use Rattle.tree_model.specs.Tree.{entry_of, is_directory}
@@ -25,9 +26,9 @@ recounted now times = record times { ctim = now }
 abbrev pub with_new_count : ℕ → Tree → ℕ → Tree
 with_new_count now t n = retimed t n (recounted now)
 
--- a directory's name is taken away with REMOVEDIR (1), any other without it
+-- a directory's name is taken away with REMOVEDIR, any other without it
 abbrev pub removes_directory : ℕ → Bool
-removes_directory flags = not (bit_and flags 1 == 0)
+removes_directory flags = not (bit_and flags UNLINK_REMOVEDIR == 0)
 
 abbrev pub without_name : ℕ → Tree → ℕ → List ℕ → ℕ → Change
 without_name now t d name n = record {

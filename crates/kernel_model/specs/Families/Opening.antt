@@ -5,6 +5,7 @@ use Rattle.abi_base.specs.declared.errno.Errno.{Errno}
 use Rattle.abi_base.specs.declared.errno.Errno.TheVariants.{Again, Badf, Exist, Isdir, Loop, Mfile, Noent, Notdir}
 use Rattle.abi_base.specs.declared.rights.TheConstants.Rights.{FILE_CREATE_FILE, FILE_OPEN, FILE_STAT_FPUT_SIZE}
 use Rattle.abi_base.specs.Rights.{meet_of}
+use Rattle.abi_base.specs.declared.flags.TheConstants.{O_CREAT, O_DIRECTORY, O_EXCL, O_TRUNC}
 use Rattle.abi_structures.specs.declared.structures.FdStat.{FdStat}
 use Rattle.abi_types.specs.declared.call.Lookup.{Lookup}
 use Rattle.abi_types.specs.declared.descriptor.Denial.TheVariants.{Outside}
@@ -40,20 +41,20 @@ use Rattle.kernel_model.specs.Families.TreeUpdates.{Change, change_updates, no_c
 use Rattle.kernel_model.specs.Fits.{fits, fits_inheriting}
 use Rattle.kernel_model.specs.View.{whole}
 
--- ---- flags of opening: CREAT is 1, DIRECTORY is 2, EXCL is 4, TRUNC is 8
+-- ---- flags of opening
 
 abbrev pub creates : ℕ → Bool
-creates oflags = not (bit_and oflags 1 == 0)
+creates oflags = not (bit_and oflags O_CREAT == 0)
 
 abbrev pub wants_directory : ℕ → Bool
-wants_directory oflags = not (bit_and oflags 2 == 0)
+wants_directory oflags = not (bit_and oflags O_DIRECTORY == 0)
 
 abbrev pub truncates : ℕ → Bool
-truncates oflags = not (bit_and oflags 8 == 0)
+truncates oflags = not (bit_and oflags O_TRUNC == 0)
 
 -- CREAT with EXCL: what is opened is new
 abbrev pub makes_new : ℕ → Bool
-makes_new oflags = creates oflags && not (bit_and oflags 4 == 0)
+makes_new oflags = creates oflags && not (bit_and oflags O_EXCL == 0)
 
 -- a symlink that is last isn't followed where the file must be new
 abbrev pub open_mode : ℕ → ℕ → WalkMode
@@ -162,8 +163,8 @@ parts_where b parts = if b then parts else []
 -- FILE_OPEN, and with CREAT FILE_CREATE_FILE; of the inheriting rights those asked, and with TRUNC FILE_STAT_FPUT_SIZE
 abbrev pub open_row : ℕ → ℕ → FdStat → Needed
 open_row fd oflags stat =
-    asking_row fd (both FILE_OPEN (where_set oflags 1 FILE_CREATE_FILE))
-    (both (both stat.base stat.inheriting) (where_set oflags 8 FILE_STAT_FPUT_SIZE))
+    asking_row fd (both FILE_OPEN (where_set oflags O_CREAT FILE_CREATE_FILE))
+    (both (both stat.base stat.inheriting) (where_set oflags O_TRUNC FILE_STAT_FPUT_SIZE))
 
 abbrev pub file_open : Lookup → List ℕ → ℕ → FdStat → Meaning
 file_open lookup path oflags stat = record {

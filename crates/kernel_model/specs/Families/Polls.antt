@@ -2,6 +2,7 @@
 use Rattle.std.specs.Prelude.{ℕ, ◌==◌, ◌&&◌, min, not, Bool, true, false, List, [], ◌∷◌, length, Option, None, Some, if◌then◌else◌}
 use Rattle.std.specs.FinMap.{get}
 use Rattle.abi_base.specs.Signal.{number_of as signal_number}
+use Rattle.abi_base.specs.declared.flags.TheConstants.{EVENT_FD_READWRITE_HANGUP}
 use Rattle.abi_structures.specs.declared.events.Event.{Event}
 use Rattle.abi_structures.specs.declared.events.EventType.{EventType}
 use Rattle.abi_structures.specs.declared.events.EventType.TheVariants as type
@@ -30,9 +31,9 @@ use Rattle.kernel_model.specs.View.{View}
 
 -- ---- events
 
--- HANGUP (1) is set of an end whose other side is shut or gone
+-- HANGUP is set of an end whose other side is shut or gone
 abbrev pub hangup : Bool → ℕ
-hangup hung = if hung then 1 else 0
+hangup hung = if hung then EVENT_FD_READWRITE_HANGUP else 0
 
 -- the event that so many bytes wait, or that there is room for so many
 abbrev pub bytes_event : ℕ → EventType → ℕ → Bool → Event

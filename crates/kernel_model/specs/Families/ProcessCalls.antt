@@ -6,6 +6,7 @@ use Rattle.abi_base.specs.declared.errno.Errno.TheVariants.{Again, Inval, Notsup
 use Rattle.abi_base.specs.declared.signal.Signal.{Signal}
 use Rattle.abi_base.specs.declared.signal.Signal.TheVariants.{Abrt, Alrm, Bus, Chld, Cont, Fpe, Hup, Ill, Int, Kill, Pipe, Quit, Segv, Stop, Sys, Term, Trap, Tstp, Ttin, Ttou, Urg, Usr1, Usr2, Vtalrm, Xcpu, Xfsz}
 use Rattle.abi_base.specs.Signal.{number_of}
+use Rattle.abi_base.specs.declared.limits.TheConstants.{MOST_THREADS}
 use Rattle.abi_types.specs.declared.reply.Answer.TheVariants as answer
 use Rattle.abi_types.specs.declared.status.Status.{Status}
 use Rattle.abi_types.specs.declared.status.Status.TheVariants.{Exit, Killed}
@@ -74,10 +75,6 @@ proc_raise number = record (answering (Inval ∷ Notsup ∷ []) (success 0 0)) {
 
 -- ---- threads
 
--- how many live threads a process may have
-abbrev pub most_threads : ℕ
-most_threads = 64
-
 -- whether there is a number for the process's next thread: none has it, as in each valid state, and it is less than 2^30 - 1, so that the
 -- words of locks have room for it. No run comes so far that there is none.
 abbrev pub has_next_number : ProcessState → Bool
@@ -85,7 +82,7 @@ has_next_number own = not (is_some (get own.threads (next_thread own))) && nat_l
 
 -- whether thread t of the process can make one more: it is one of its threads, fewer than 64 live, and there is a number
 abbrev pub can_make_thread : ℕ → ProcessState → Bool
-can_make_thread t own = is_some (get own.threads t) && (nat_lt (len own.threads) most_threads && has_next_number own)
+can_make_thread t own = is_some (get own.threads t) && (nat_lt (len own.threads) MOST_THREADS && has_next_number own)
 
 -- the process has one thread more, whose number is the result
 abbrev pub made_if : Bool → ℕ → ProcessState → Outcome

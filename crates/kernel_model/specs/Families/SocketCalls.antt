@@ -3,6 +3,7 @@ use Rattle.std.specs.Prelude.{ℕ, ◌==◌, ◌&&◌, Bool, true, false, List, 
 use Rattle.std.specs.FinMap.{empty, get, insert}
 use Rattle.abi_base.specs.declared.errno.Errno.TheVariants.{Again, Badf, Mfile, Notsock, Notsup, Pipe}
 use Rattle.abi_base.specs.declared.rights.TheConstants.Rights.{FD_READ, FD_WRITE, SOCK_SHUTDOWN}
+use Rattle.abi_base.specs.declared.flags.TheConstants.{FILETYPE_FIFO, FILETYPE_SOCKET_STREAM}
 use Rattle.abi_types.specs.declared.descriptor.Descriptor.{Descriptor}
 use Rattle.abi_types.specs.declared.open_kind.OpenKind.{OpenKind}
 use Rattle.abi_types.specs.declared.open_kind.OpenKind.TheVariants.{End}
@@ -10,7 +11,6 @@ use Rattle.abi_types.specs.declared.reply.Answer.TheVariants as answer
 use Rattle.kernel_model.specs.Channels.{new_channel}
 use Rattle.kernel_model.specs.Families.ChannelCalls.{both_parts, picked, receive_open, received_part, send_open, sent_part, shut_open}
 use Rattle.kernel_model.specs.Families.DescriptorCalls.{lowest_free}
-use Rattle.kernel_model.specs.Families.FileTypes.{fifo, stream_socket}
 use Rattle.kernel_model.specs.Families.Numbers.{can_number, next_object, process_updates}
 use Rattle.kernel_model.specs.Families.OpenMeaning.{OpenMeaning, at_descriptor, by_open}
 use Rattle.kernel_model.specs.Fits.{fits}
@@ -102,7 +102,7 @@ create_first made p t own table (Some first) = create_second made p t own table 
 
 -- FIFO and SOCKET_STREAM are made; each other type is refused by what the call's registers show, and here again
 abbrev pub made_of : ℕ → Option Pair
-made_of kind = if kind == fifo then Some pipe else if kind == stream_socket then Some pair else None
+made_of kind = if kind == FILETYPE_FIFO then Some pipe else if kind == FILETYPE_SOCKET_STREAM then Some pair else None
 
 abbrev pub create : Option Pair → ℕ → ℕ → Option ProcessState → Table → Outcome
 create None p t own table = replies (refused Notsup)

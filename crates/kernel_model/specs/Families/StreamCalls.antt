@@ -2,6 +2,7 @@
 use Rattle.std.specs.Prelude.{ℕ, ◌==◌, ◌&&◌, true, false, List, [], ◌∷◌, ◌++◌, length, take, drop, Option, None, Some, if◌then◌else◌}
 use Rattle.abi_base.specs.declared.errno.Errno.TheVariants.{Again, Badf, Fbig, Inval, Pipe}
 use Rattle.abi_base.specs.declared.rights.TheConstants.Rights.{FD_READ, FD_SEEK, FD_TELL, FD_WRITE}
+use Rattle.abi_base.specs.declared.flags.TheConstants.{WHENCE_CUR}
 use Rattle.abi_types.specs.declared.needed.Needed.{Needed}
 use Rattle.abi_types.specs.declared.open_kind.OpenKind.{OpenKind}
 use Rattle.abi_types.specs.declared.open_kind.OpenKind.TheVariants.{End, File, Terminal}
@@ -111,7 +112,7 @@ seeking bits whence = record {
 
 -- FD_SEEK; an offset of 0 from where it is (whence 1) only reports it, for which FD_TELL will do
 abbrev pub seek_row : ℕ → ℕ → ℕ → Needed
-seek_row fd bits whence = if (bits == 0) && (whence == 1) then either_row fd FD_TELL FD_SEEK else base_row fd FD_SEEK
+seek_row fd bits whence = if (bits == 0) && (whence == WHENCE_CUR) then either_row fd FD_TELL FD_SEEK else base_row fd FD_SEEK
 
 abbrev pub fd_seek : ℕ → ℕ → ℕ → Meaning
 fd_seek fd bits whence = by_open (seek_row fd bits whence) (seeking bits whence)

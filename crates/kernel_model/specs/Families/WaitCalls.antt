@@ -1,6 +1,7 @@
 -- What polls need, and until when they wait for clocks.
 use Rattle.std.specs.Prelude.{ℕ, ◌+◌, ◌-◌, ◌==◌, Bool, List, [], ◌∷◌, map, if◌then◌else◌}
 use Rattle.abi_base.specs.declared.rights.TheConstants.Rights.{POLL_FD_READWRITE, POLL_PROC_TERMINATE}
+use Rattle.abi_base.specs.declared.flags.TheConstants.{SUBSCRIPTION_CLOCK_ABSTIME}
 use Rattle.abi_structures.specs.declared.events.Subscription.{Subscription}
 use Rattle.abi_structures.specs.declared.events.What.{What}
 use Rattle.abi_structures.specs.declared.events.What.TheVariants.{FdRead, FdWrite, ProcTerminate}
@@ -29,9 +30,9 @@ fds_of rows = map (λ (row : Needed). row.fd) rows
 
 -- ---- the times of clocks
 
--- whether the time is one of the clock (ABSTIME, 1), and not counted from the call on
+-- whether the time is one of the clock (ABSTIME), and not counted from the call on
 abbrev pub is_absolute : ℕ → Bool
-is_absolute flags = flags == 1
+is_absolute flags = flags == SUBSCRIPTION_CLOCK_ABSTIME
 
 -- The moment of a time of a clock: one since 1970 is so much later than the run's epoch, and 0 where it is earlier than that.
 abbrev pub moment_of : Constants → ℕ → ℕ → ℕ
