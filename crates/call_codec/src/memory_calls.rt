@@ -4,10 +4,10 @@ ghost use Rattle.call_codec.specs.MemoryCalls.{has_bits, has_one, pages_in, is_a
 ghost use Rattle.guest_memory.specs.Ranges.{IsPageAddress};
 
 use abi_base::{GUEST_BEGIN, GUEST_END, PAGE_LIMIT, PAGE_SIZE};
-use abi_types::{Call, CallNumber, Errno, Place, Regs};
 use abi_types::flags::{
     MAP_FIXED, MAP_PRIVATE, MAP_SHARED, MS_ASYNC, MS_SYNC, PROT_EXEC, PROT_WRITE,
 };
+use abi_types::{Call, CallNumber, Errno, Place, Regs};
 use codec_arguments::{low, refuse_when};
 use guest_memory::GuestMemory;
 

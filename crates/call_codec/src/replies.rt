@@ -19,8 +19,8 @@ use crate::memory_calls::{has_bits, pages_in};
 use crate::messages::{put_received, put_sent};
 use crate::output::{content, put_content, put_payload, put_words};
 use abi_base::{GUEST_END, PAGE_SIZE};
-use abi_types::{Answer, Call, CallNumber, Errno, Place, Prot, Regs, Reply};
 use abi_types::flags::{PROT_EXEC, PROT_READ, PROT_WRITE};
+use abi_types::{Answer, Call, CallNumber, Errno, Place, Prot, Regs, Reply};
 use codec_arguments::low;
 use guest_memory::{GuestMemory, Room};
 

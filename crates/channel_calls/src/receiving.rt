@@ -19,8 +19,10 @@ use crate::installing::install;
 use crate::kept::Channels;
 use crate::letting_go::{MOST_CARRIED, NOTHING, check, let_go_all};
 use abi_base::MOST_DESCRIPTORS;
+use abi_types::flags::{
+    FDFLAG_NONBLOCK, SOCK_RECV_FDS_TRUNCATED, SOCK_RECV_PEEK, SOCK_RECV_WAITALL,
+};
 use abi_types::{Answer, Bytes, Errno, FdList, ObjId, OpenKind, Payload, WordWrites};
-use abi_types::flags::{FDFLAG_NONBLOCK, SOCK_RECV_FDS_TRUNCATED, SOCK_RECV_PEEK, SOCK_RECV_WAITALL};
 use channels::Channel;
 use fd_table::FdTable;
 use object_store::Objects;
@@ -200,7 +202,11 @@ fn take(
     let mut numbers = FdList::new(alloc);
     install(table, &fds[..kept], &mut numbers)?;
     draw(objects, channels, id, &mut out, kept);
-    let flags = if kept < carried { SOCK_RECV_FDS_TRUNCATED } else { 0 };
+    let flags = if kept < carried {
+        SOCK_RECV_FDS_TRUNCATED
+    } else {
+        0
+    };
     Ok(given(out, numbers, flags))
 }
 

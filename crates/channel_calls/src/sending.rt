@@ -10,8 +10,8 @@ ghost use Rattle.maps.specs.Maps.{number};
 
 use crate::kept::Channels;
 use crate::letting_go::{MOST_CARRIED, NOTHING};
-use abi_types::{Answer, Descriptor, Errno, ObjId, Payload, WordWrites};
 use abi_types::flags::FDFLAG_NONBLOCK;
+use abi_types::{Answer, Descriptor, Errno, ObjId, Payload, WordWrites};
 use fd_table::FdTable;
 use object_store::Objects;
 use right_rules::{refused, success, success_with};

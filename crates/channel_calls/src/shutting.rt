@@ -11,8 +11,8 @@ ghost use Rattle.maps.specs.Maps.{number};
 
 use crate::kept::Channels;
 use crate::letting_go::{MOST_CARRIED, NOTHING, let_go_all};
-use abi_types::{Answer, Errno, ObjId, OpenKind};
 use abi_types::flags::{SHUT_RD, SHUT_WR};
+use abi_types::{Answer, Errno, ObjId, OpenKind};
 use channels::Side;
 use object_store::Objects;
 use right_rules::{refused, success};

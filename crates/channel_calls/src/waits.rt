@@ -10,8 +10,8 @@ ghost use Rattle.kernel_model.specs.Outcome.{is_parked};
 
 use crate::kept::Channels;
 use crate::sending::{Outgoing, Sending, is_nonblocking, ready};
-use abi_types::{Call, ObjId, OffsetCall, OpenKind, SocketCall};
 use abi_types::flags::SOCK_RECV_WAITALL;
+use abi_types::{Call, ObjId, OffsetCall, OpenKind, SocketCall};
 use fd_table::FdTable;
 
 /// Whether fd_read or fd_write on an end would wait. Takes no memory.
@@ -60,7 +60,13 @@ pub fn socket_waits(
     };
     match call {
         SocketCall::SockRecv { length, flags, .. } => {
-            receive_waits(channels, Some(*reads), *mode, length, flags & SOCK_RECV_WAITALL != 0)
+            receive_waits(
+                channels,
+                Some(*reads),
+                *mode,
+                length,
+                flags & SOCK_RECV_WAITALL != 0,
+            )
         }
         SocketCall::SockSend { bytes, fds, .. } => {
             let end = Outgoing {

@@ -2,8 +2,8 @@
 ghost use Rattle.std.specs.Prelude.{◌≡◌};
 ghost use Rattle.codec_calls.specs.ClockCalls.{clock_known, clock_res_get_of, clock_time_get_of, is_cpu_clock, is_time_clock};
 
-use abi_types::{Call, Errno, Regs};
 use abi_types::flags::{CLOCK_MONOTONIC, CLOCK_REALTIME};
+use abi_types::{Call, Errno, Regs};
 use codec_arguments::{low, refuse_when};
 
 /// Whether a clock is one of a processor's time: 2 or 4.

@@ -6,13 +6,13 @@ ghost use Rattle.codec_calls.specs.DescriptorCalls.{fd_pread_of, fd_pwrite_of, f
 ghost use Rattle.codec_calls.specs.DescriptorCalls.{fd_stat_put_of, fd_sync_of, fd_write_of, has_many, is_beyond, is_file_type, is_pair, unmade};
 
 use crate::flags::has_unknown;
-use abi_types::{Call, Errno, FdStat, OPENED_RIGHTS, PROCESS_RIGHTS, Regs, STREAM_RIGHTS};
 use abi_types::flags::{
     FDFLAG_APPEND, FDFLAG_DSYNC, FDFLAG_NONBLOCK, FDFLAG_RSYNC, FDFLAG_SYNC,
     FILETYPE_CHARACTER_DEVICE, FILETYPE_DIRECTORY, FILETYPE_FIFO, FILETYPE_PROCESS,
     FILETYPE_REGULAR_FILE, FILETYPE_SHARED_MEMORY, FILETYPE_SOCKET_DGRAM, FILETYPE_SOCKET_STREAM,
     FILETYPE_SYMBOLIC_LINK, WHENCE_CUR, WHENCE_SET,
 };
+use abi_types::{Call, Errno, FdStat, OPENED_RIGHTS, PROCESS_RIGHTS, Regs, STREAM_RIGHTS};
 use codec_arguments::{
     ArgumentFault, MOST_IOVECS, check_writable, low, read_fdstat, read_room, read_written,
     refuse_when,
@@ -21,8 +21,11 @@ use guest_memory::GuestMemory;
 use std::alloc::Global;
 
 /// The flags of an open that there are.
-pub const KNOWN_FLAGS: u32 =
-    (FDFLAG_APPEND | FDFLAG_DSYNC | FDFLAG_NONBLOCK | FDFLAG_RSYNC | FDFLAG_SYNC) as u32;
+pub const KNOWN_FLAGS: u32 = (FDFLAG_APPEND
+    | FDFLAG_DSYNC
+    | FDFLAG_NONBLOCK
+    | FDFLAG_RSYNC
+    | FDFLAG_SYNC) as u32;
 
 /// The bits of all rights: 0 to 10, 12 to 28, 30, 32 and 39.
 pub const KNOWN_RIGHTS: u64 = OPENED_RIGHTS.0 | STREAM_RIGHTS.0 | PROCESS_RIGHTS.0;
@@ -205,7 +208,10 @@ pub fn fd_seek(regs: &Regs) -> Result<Call, Errno>
 {
     let offset = regs.get(11);
     let whence = low(regs.get(12));
-    refuse_when(!(WHENCE_CUR <= whence && whence <= WHENCE_SET), Errno::Inval)?;
+    refuse_when(
+        !(WHENCE_CUR <= whence && whence <= WHENCE_SET),
+        Errno::Inval,
+    )?;
     refuse_when(whence == WHENCE_SET && is_beyond(offset), Errno::Inval)?;
     Ok(Call::FdSeek {
         fd: low(regs.get(10)),

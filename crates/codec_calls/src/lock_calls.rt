@@ -2,8 +2,8 @@
 ghost use Rattle.std.specs.Prelude.{◌≡◌};
 ghost use Rattle.codec_calls.specs.LockCalls.{condvar_signal_of, is_misaligned, lock_unlock_of, locked_at, scope_known, thread_exit_of};
 
-use abi_types::{Call, Errno, Regs};
 use abi_types::flags::{SCOPE_PRIVATE, SCOPE_SHARED};
+use abi_types::{Call, Errno, Regs};
 use codec_arguments::{low, read_word, refuse_when};
 use guest_memory::GuestMemory;
 

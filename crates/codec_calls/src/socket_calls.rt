@@ -4,8 +4,8 @@ ghost use Rattle.codec_arguments.specs.Reading.{Reads};
 ghost use Rattle.codec_calls.specs.SocketCalls.{lacks_byte, received_room, sent_bytes, sent_descriptors, sent_known, sock_recv_of, sock_send_of, sock_shutdown_of};
 
 use crate::flags::has_unknown;
-use abi_types::{Bytes, Call, Errno, FdList, RecvIn, Regs, SendIn};
 use abi_types::flags::{SOCK_RECV_PEEK, SOCK_RECV_WAITALL};
+use abi_types::{Bytes, Call, Errno, FdList, RecvIn, Regs, SendIn};
 use codec_arguments::{
     ArgumentFault, MOST_IOVECS, check_writable, low, read_descriptors, read_recv_in, read_room,
     read_send_in, read_written, refuse_when,

@@ -5,11 +5,11 @@ ghost use Rattle.codec_files.specs.ByNode.{file_advise_of, file_allocate_of, fil
 ghost use Rattle.codec_files.specs.ByNode.{file_stat_get_of, file_stat_put_of, sets_wrongly};
 
 use crate::by_path::{looks_unknown, lookup_of};
-use abi_types::{Call, Errno, Regs};
 use abi_types::flags::{
     FILESTAT_ATIM, FILESTAT_ATIM_NOW, FILESTAT_MTIM, FILESTAT_MTIM_NOW, FILESTAT_SIZE,
     FILESTAT_TIMES,
 };
+use abi_types::{Call, Errno, Regs};
 use codec_arguments::{
     ArgumentFault, MOST_TRANSFERRED, check_writable, low, read_filestat, read_path, refuse_when,
 };

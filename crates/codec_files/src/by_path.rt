@@ -4,11 +4,11 @@ ghost use Rattle.codec_arguments.specs.Reading.{Reads};
 ghost use Rattle.codec_files.specs.ByPath.{file_create_of, file_link_of, file_open_of, file_readlink_of, file_rename_of};
 ghost use Rattle.codec_files.specs.ByPath.{file_symlink_of, file_unlink_of, lookup_of, looks_unknown, opens_wrongly};
 
-use abi_types::{Call, Errno, Lookup, Regs};
 use abi_types::flags::{
     FILETYPE_DIRECTORY, LOOKUP_SYMLINK_FOLLOW, O_CREAT, O_DIRECTORY, O_EXCL, O_TRUNC,
     UNLINK_REMOVEDIR,
 };
+use abi_types::{Call, Errno, Lookup, Regs};
 use codec_arguments::{
     ArgumentFault, MOST_TRANSFERRED, check_writable, high, low, read_fdstat, read_path, refuse_when,
 };

@@ -5,8 +5,8 @@ ghost use Rattle.codec_arguments.specs.Reading.{Reads};
 ghost use Rattle.codec_poll.specs.Rules.{all_known, allowed, are_placed, has_bad_address, has_cpu_clock, has_lock, has_unknown_clock};
 ghost use Rattle.codec_poll.specs.Rules.{is_deadline, scopes_in, scopes_known, stand_for_lock};
 
-use abi_types::{Errno, Subscription, SubscriptionList, What};
 use abi_types::flags::SUBSCRIPTION_CLOCK_ABSTIME;
+use abi_types::{Errno, Subscription, SubscriptionList, What};
 use codec_arguments::{ArgumentFault, refuse_when};
 use codec_calls::{check_scope, has_unknown, is_cpu_clock, is_misaligned, is_time_clock};
 use std::alloc::Global;

@@ -3,8 +3,8 @@ ghost use Rattle.std.specs.Prelude.{◌≡◌, true};
 ghost use Rattle.kernel_model.specs.Families.FileOffsets as model;
 ghost use Rattle.fd_calls.specs.AtOffset.{IsAtOffset};
 
-use abi_types::{Errno, ObjId, OpenKind, Reply};
 use abi_types::flags::{WHENCE_CUR, WHENCE_END, WHENCE_SET};
+use abi_types::{Errno, ObjId, OpenKind, Reply};
 use file_tree::Tree;
 use right_rules::{refused, success};
 

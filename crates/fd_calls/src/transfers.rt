@@ -6,8 +6,8 @@ ghost use Rattle.fd_calls.specs.AtOffset.{IsAtOffset};
 ghost use Rattle.file_calls.specs.Done.{HasSameNodes};
 ghost use Rattle.file_calls.specs.Opens.{IsThere};
 
-use abi_types::{Errno, ObjId, OpenKind, Payload, Reply};
 use abi_types::flags::FDFLAG_APPEND;
+use abi_types::{Errno, ObjId, OpenKind, Payload, Reply};
 use file_calls::{overwrite, read_file};
 use file_tree::Tree;
 use right_rules::{refused, success, success_with};

@@ -13,11 +13,11 @@ ghost use Rattle.file_calls.specs.Opens.{IsThere};
 use crate::path_fault::reply_of;
 use crate::paths::{found, lookup_mode};
 use abi_structures::FileStat;
-use abi_types::{Errno, ObjId, OpenKind, Reply, Times};
 use abi_types::flags::{
     FILESTAT_ATIM, FILESTAT_ATIM_NOW, FILESTAT_MTIM, FILESTAT_MTIM_NOW, FILESTAT_SIZE,
     FILESTAT_TIMES,
 };
+use abi_types::{Errno, ObjId, OpenKind, Reply, Times};
 use file_tree::Tree;
 use right_rules::{refused, success};
 use std::alloc::AllocError;
@@ -91,8 +91,22 @@ fn times_put(flags: u32, stat: &FileStat, now: u64, times: Times) -> Times
     ensures { result ≡ model.times_put flags stat.now now times }
 {
     Times {
-        atim: chosen(flags, FILESTAT_ATIM, FILESTAT_ATIM_NOW, stat.atim, now, times.atim),
-        mtim: chosen(flags, FILESTAT_MTIM, FILESTAT_MTIM_NOW, stat.mtim, now, times.mtim),
+        atim: chosen(
+            flags,
+            FILESTAT_ATIM,
+            FILESTAT_ATIM_NOW,
+            stat.atim,
+            now,
+            times.atim,
+        ),
+        mtim: chosen(
+            flags,
+            FILESTAT_MTIM,
+            FILESTAT_MTIM_NOW,
+            stat.mtim,
+            now,
+            times.mtim,
+        ),
         ctim: now,
     }
 }

@@ -6,8 +6,8 @@ ghost use Rattle.kernel_model.specs.Families.FilePaths as paths;
 ghost use Rattle.file_calls.specs.Walks.{end_or_refusal, node_at, node_or_refusal};
 
 use crate::path_fault::PathFault;
-use abi_types::{Errno, ObjId, OpenKind};
 use abi_types::flags::LOOKUP_SYMLINK_FOLLOW;
+use abi_types::{Errno, ObjId, OpenKind};
 use file_tree::Tree;
 use path_lookup::{End, WalkFault, WalkMode};
 use std::str;

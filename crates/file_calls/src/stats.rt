@@ -10,11 +10,11 @@ ghost use Rattle.file_calls.specs.Opens.{IsThere};
 use crate::path_fault::reply_of;
 use crate::paths::{found, lookup_mode};
 use abi_structures::FileStat;
-use abi_types::{Errno, Node, NodeKind, ObjId, OpenKind, Payload, Reply};
 use abi_types::flags::{
     FILETYPE_CHARACTER_DEVICE, FILETYPE_DIRECTORY, FILETYPE_FIFO, FILETYPE_PROCESS,
     FILETYPE_REGULAR_FILE, FILETYPE_SOCKET_STREAM, FILETYPE_SYMBOLIC_LINK,
 };
+use abi_types::{Errno, Node, NodeKind, ObjId, OpenKind, Payload, Reply};
 use file_tree::Tree;
 use right_rules::{refused, success_with};
 

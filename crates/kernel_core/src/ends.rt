@@ -11,8 +11,8 @@ ghost use Rattle.kernel_model.specs.State.{Table};
 ghost use Rattle.kernel_model.specs.Valid.{IsValid};
 
 use crate::kernel::Kernel;
-use abi_types::{Answer, Errno, ObjId, Reply, Who};
 use abi_types::flags::{FILETYPE_FIFO, FILETYPE_SOCKET_STREAM};
+use abi_types::{Answer, Errno, ObjId, Reply, Who};
 use channel_calls::{Pair, PairKind, put_pair};
 use kernel_parts::release;
 use right_rules::{refused, success};

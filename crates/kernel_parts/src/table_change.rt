@@ -9,8 +9,8 @@ ghost use Rattle.kernel_model.specs.Outcome.{IsSuccess};
 ghost use Rattle.kernel_model.specs.Release.{count_in};
 
 use abi_base::MOST_DESCRIPTORS;
-use abi_types::{DescriptorChange, Errno, FdStat, OpenKind, Reply};
 use abi_types::flags::{FDSTAT_FLAGS, FDSTAT_RIGHTS};
+use abi_types::{DescriptorChange, Errno, FdStat, OpenKind, Reply};
 use fd_table::FdTable;
 use object_store::Objects;
 use right_rules::{refused, success};

@@ -5,8 +5,8 @@ ghost use Rattle.kernel_model.specs.Families.Polls.{deadline_in, has_come, soone
 ghost use Rattle.kernel_model.specs.Families.WaitCalls as model;
 ghost use Rattle.poll_set.specs.Polls.{poll_deadline};
 
-use abi_types::{Constants, Subscription, What};
 use abi_types::flags::{CLOCK_REALTIME, SUBSCRIPTION_CLOCK_ABSTIME};
+use abi_types::{Constants, Subscription, What};
 
 // A deadline at this moment or later doesn't count.
 const NEVER: u64 = 1 << 62;

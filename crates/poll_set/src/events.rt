@@ -2,8 +2,8 @@
 ghost use Rattle.std.specs.Prelude.{◌≡◌, option_copied};
 ghost use Rattle.kernel_model.specs.Families.Polls as model;
 
-use abi_types::{Event, EventType, Status};
 use abi_types::flags::EVENT_FD_READWRITE_HANGUP;
+use abi_types::{Event, EventType, Status};
 
 /// An event of this type without an error, for the subscription with this number of the caller's.
 pub fn event_of(userdata: u64, kind: EventType) -> Event

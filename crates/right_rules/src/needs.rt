@@ -11,11 +11,11 @@ ghost use Rattle.right_rules.specs.Needs.{named_in, rows_in};
 ghost use Rattle.right_rules.specs.declared.needs.Needs.TheVariants as needs;
 
 use crate::rows::{asking_row, base_row, both, either_row, where_set};
-use abi_types::{Call, FdStat, Needed, Rights, Subscription};
 use abi_types::flags::{
     FDSTAT_FLAGS, FDSTAT_RIGHTS, FILESTAT_SIZE, FILESTAT_TIMES, MAP_ANON, O_CREAT, O_TRUNC,
     PROT_EXEC, WHENCE_CUR,
 };
+use abi_types::{Call, FdStat, Needed, Rights, Subscription};
 
 /// A view of the descriptors that a call names, in the order of its arguments, and of the rights that it needs of them.
 #[derive(Clone, Copy)]
@@ -95,7 +95,10 @@ fn map_row(fd: u32, prot: u32) -> Needed
     ensures { result ≡ map_row fd prot }
 {
     let read = both(Rights::MEM_MAP, Rights::FD_READ);
-    base_row(fd, both(read, where_set(prot, PROT_EXEC, Rights::MEM_MAP_EXEC)))
+    base_row(
+        fd,
+        both(read, where_set(prot, PROT_EXEC, Rights::MEM_MAP_EXEC)),
+    )
 }
 
 /// What the call needs of its descriptors.

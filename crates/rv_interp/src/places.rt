@@ -81,7 +81,8 @@ fn jump_at(regs: &mut Regs, base: u64, at: &mut u64, rd: u8, value: u64, offset:
 fn near(base: u64, at: u64, slot: &Slot) -> u64
     ensures { (base + result) % 2 ^ 64 ≡ plus_immediate (address_at base at) (instr_of slot.now) }
 {
-    at.wrapping_mul(INSTRUCTION_ALIGNMENT).wrapping_add(slot.immediate())
+    at.wrapping_mul(INSTRUCTION_ALIGNMENT)
+        .wrapping_add(slot.immediate())
 }
 
 // The address after the instruction at a place.
