@@ -12,6 +12,7 @@ use abi_layout::{write_event, write_fdstat, write_filestat};
 use abi_structures::{Event, Iovec};
 use abi_types::{Payload, Regs, WordWrite, WordWrites};
 use codec_arguments::{MOST_IOVECS, NO_RANGE, check_writable, fill_ranges};
+use codec_poll::EVENT_SIZE;
 use guest_memory::GuestMemory;
 
 // How many iovecs most calls have at most. Room for so few is made at once.
@@ -19,9 +20,6 @@ const FEW: usize = 8;
 
 // How many iovecs a call has at most. Room for so many is 16 KiB, which are written first.
 const MANY: usize = MOST_IOVECS as usize;
-
-// How many bytes an event has.
-pub(crate) const EVENT_SIZE: u64 = 32;
 
 // Writes bytes from an address on; where one of them can't be written, none is.
 pub(crate) fn put_bytes(memory: &mut GuestMemory, at: u64, bytes: &[u8])

@@ -4,10 +4,10 @@ ghost use Rattle.codec_arguments.specs.Bytes.{writable};
 ghost use Rattle.call_codec.specs.Given.{awaited_word, first_lock, given_of, has_message, has_places, has_room, lock_awaited, lock_of};
 
 use crate::messages::iovecs_in;
-use crate::output::EVENT_SIZE;
 use abi_types::{Call, Errno, Regs, Subscription, WakeIn, What};
 use codec_arguments::{check_writable, read_recv_in, read_room, read_word, refuse_when};
 use codec_calls::MOST_SENT_DESCRIPTORS;
+use codec_poll::EVENT_SIZE;
 use guest_memory::GuestMemory;
 
 /// What a thread with these registers is given that waited in the call: the present word of the lock that it waits for, or 0, where that

@@ -3,6 +3,7 @@ ghost use Rattle.std.specs.Prelude.{◌≡◌};
 ghost use Rattle.codec_arguments.specs.Reading.{Reads};
 ghost use Rattle.codec_calls.specs.ProcessCalls.{is_signal, is_stop, proc_exec_of, proc_exit_of, proc_fork_of, proc_raise_of, random_get_of};
 
+use abi_base::{MOST_ARGDATA, MOST_DESCRIPTORS};
 use abi_types::{Call, Errno, Regs};
 use codec_arguments::{
     ArgumentFault, check_writable, low, read_bytes, read_descriptors, refuse_when,
@@ -11,10 +12,10 @@ use guest_memory::GuestMemory;
 use std::alloc::Global;
 
 /// The most bytes of argument data.
-pub const MOST_ARGUMENT_DATA: u64 = 65536;
+pub const MOST_ARGUMENT_DATA: u64 = MOST_ARGDATA as u64;
 
 /// The most descriptors that a program is given.
-pub const MOST_EXEC_DESCRIPTORS: u64 = 1024;
+pub const MOST_EXEC_DESCRIPTORS: u64 = MOST_DESCRIPTORS as u64;
 
 /// The most random bytes of a call.
 pub const MOST_RANDOM: u64 = 65536;

@@ -2,7 +2,7 @@
 //! variables, or the error that refuses it.
 #![tactic(auto)]
 
-pub use polling::{MOST_SUBSCRIPTIONS, poll};
+pub use polling::{EVENT_SIZE, MOST_SUBSCRIPTIONS, poll};
 
 mod found;
 mod polling;

@@ -13,8 +13,8 @@ use std::alloc::Global;
 /// The most subscriptions of a poll.
 pub const MOST_SUBSCRIPTIONS: u64 = 256;
 
-// How many bytes an event has.
-const EVENT_SIZE: u64 = 32;
+/// How many bytes an event has.
+pub const EVENT_SIZE: u64 = 32;
 
 /// poll: the address of subscriptions, the address for events, and how many there are of each. INVAL for none or over 256;
 /// FAULT for a subscription that can't be read, room for events that can't be written, and a word of a lock or a condition
