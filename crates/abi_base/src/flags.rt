@@ -54,8 +54,10 @@ pub const FILESTAT_MTIM_NOW: u32 = 8;
 pub const FILESTAT_SIZE: u32 = 16;
 
 /// The flags of `file_stat_fput` and `file_stat_put` by which a time is set.
-pub const FILESTAT_TIMES: u32 =
-    FILESTAT_ATIM | FILESTAT_ATIM_NOW | FILESTAT_MTIM | FILESTAT_MTIM_NOW;
+pub const FILESTAT_TIMES: u32 = FILESTAT_ATIM
+    | FILESTAT_ATIM_NOW
+    | FILESTAT_MTIM
+    | FILESTAT_MTIM_NOW;
 
 /// Of `file_unlink`: what is removed is a directory.
 pub const UNLINK_REMOVEDIR: u32 = 1;

@@ -10,16 +10,16 @@ use Rattle.abi_types.specs.declared.open_type.OpenType.TheVariants.{File, Direct
 abbrev pub file_rights : ℕ
 file_rights =
     union_of (
-      FD_DATASYNC ∷ FD_READ ∷ FD_SEEK ∷ FD_STAT_PUT_FLAGS ∷ FD_SYNC ∷ FD_TELL ∷ FD_WRITE ∷ FILE_ADVISE ∷ FILE_ALLOCATE ∷
-      FILE_STAT_FGET ∷ FILE_STAT_FPUT_SIZE ∷ FILE_STAT_FPUT_TIMES ∷ MEM_MAP ∷ MEM_MAP_EXEC ∷ POLL_FD_READWRITE ∷ PROC_EXEC ∷ [])
+    FD_DATASYNC ∷ FD_READ ∷ FD_SEEK ∷ FD_STAT_PUT_FLAGS ∷ FD_SYNC ∷ FD_TELL ∷ FD_WRITE ∷ FILE_ADVISE ∷ FILE_ALLOCATE ∷
+    FILE_STAT_FGET ∷ FILE_STAT_FPUT_SIZE ∷ FILE_STAT_FPUT_TIMES ∷ MEM_MAP ∷ MEM_MAP_EXEC ∷ POLL_FD_READWRITE ∷ PROC_EXEC ∷ [])
 
 -- a directory is listed, and the names in it are looked up, made, changed and taken away
 abbrev pub directory_rights : ℕ
 directory_rights =
     union_of (
-      FD_DATASYNC ∷ FD_STAT_PUT_FLAGS ∷ FD_SYNC ∷ FILE_CREATE_DIRECTORY ∷ FILE_CREATE_FILE ∷ FILE_LINK_SOURCE ∷ FILE_LINK_TARGET ∷
-      FILE_OPEN ∷ FILE_READDIR ∷ FILE_READLINK ∷ FILE_RENAME_SOURCE ∷ FILE_RENAME_TARGET ∷ FILE_STAT_FGET ∷ FILE_STAT_FPUT_TIMES ∷
-      FILE_STAT_GET ∷ FILE_STAT_PUT_TIMES ∷ FILE_SYMLINK ∷ FILE_UNLINK ∷ [])
+    FD_DATASYNC ∷ FD_STAT_PUT_FLAGS ∷ FD_SYNC ∷ FILE_CREATE_DIRECTORY ∷ FILE_CREATE_FILE ∷ FILE_LINK_SOURCE ∷ FILE_LINK_TARGET ∷
+    FILE_OPEN ∷ FILE_READDIR ∷ FILE_READLINK ∷ FILE_RENAME_SOURCE ∷ FILE_RENAME_TARGET ∷ FILE_STAT_FGET ∷ FILE_STAT_FPUT_TIMES ∷
+    FILE_STAT_GET ∷ FILE_STAT_PUT_TIMES ∷ FILE_SYMLINK ∷ FILE_UNLINK ∷ [])
 
 -- all base rights that a descriptor of such an open may have, one bit a right
 abbrev pub rights_of : OpenType → ℕ

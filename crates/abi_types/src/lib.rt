@@ -5,8 +5,8 @@
 #![tactic(auto)]
 
 pub use abi_base::{
-    Errno, Grant, GrantList, GrantTarget, MOST_THREADS, ObjId, Pid, Prot, Regs, Rights, Signal, Tid,
-    TidList, flags,
+    Errno, Grant, GrantList, GrantTarget, MOST_THREADS, ObjId, Pid, Prot, Regs, Rights, Signal,
+    Tid, TidList, flags,
 };
 pub use abi_structures::{
     Dirent, Event, EventType, FdStat, FileStat, Iovec, RecvIn, RecvOut, SendIn, SendOut,

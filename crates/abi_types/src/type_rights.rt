@@ -18,8 +18,9 @@ pub const WRITING_RIGHTS: Rights = Rights(
 );
 
 /// All rights of an end of a pair of streams.
-pub const STREAM_RIGHTS: Rights =
-    Rights(READING_RIGHTS.0 | WRITING_RIGHTS.0 | Rights::SOCK_SHUTDOWN.0);
+pub const STREAM_RIGHTS: Rights = Rights(
+    READING_RIGHTS.0 | WRITING_RIGHTS.0 | Rights::SOCK_SHUTDOWN.0,
+);
 
 /// All rights of a file.
 pub const FILE_RIGHTS: Rights = Rights(
@@ -67,5 +68,4 @@ pub const DIRECTORY_RIGHTS: Rights = Rights(
 pub const OPENED_RIGHTS: Rights = Rights(DIRECTORY_RIGHTS.0 | FILE_RIGHTS.0);
 
 /// All rights of a process.
-pub const PROCESS_RIGHTS: Rights =
-    Rights(Rights::FILE_STAT_FGET.0 | Rights::POLL_PROC_TERMINATE.0);
+pub const PROCESS_RIGHTS: Rights = Rights(Rights::FILE_STAT_FGET.0 | Rights::POLL_PROC_TERMINATE.0);
