@@ -1,8 +1,7 @@
 -- What a receive comes to.
---     on_err, ok_more, err_more      what holds where there is an error, and of what succeeds
 --     receive_takes      where a receive can go on
 --     take_done, take_none, take_succeeds      what a receive takes
-use Rattle.std.proofs.Common.{◌≡◌, ℕ, ◌==◌, ◌++◌, not, false, List, [], take, None, Some, Result, Ok, Err, IfOk, OnErr, refl, sym, ap, subst, ◌∙◌}
+use Rattle.std.proofs.Common.{◌≡◌, ℕ, ◌==◌, ◌++◌, not, true, false, List, [], take, None, Some, Ok, refl, sym, ap, subst, ◌∙◌}
 use Rattle.std.specs.Prelude.{bit_and}
 use Rattle.std.specs.FinMap.{get, insert}
 use Rattle.abi_base.specs.declared.errno.Errno.TheVariants.{Mfile}
@@ -10,24 +9,13 @@ use Rattle.abi_types.specs.declared.open_kind.OpenKind.{OpenKind}
 use Rattle.abi_types.specs.declared.open_kind.OpenKind.TheVariants.{End}
 use Rattle.abi_types.specs.declared.reply.Answer.{Answer}
 use Rattle.abi_types.specs.declared.reply.Answer.TheVariants as answer
-use Rattle.channel_calls.specs.Calls.{Channels, channels_after, seen_in, table_after}
+use Rattle.channel_calls.specs.Calls.{Channels, seen_in}
+use Rattle.channel_calls.specs.Done.{IsSocketDone}
 use Rattle.kernel_model.specs.Channels.{Channel, Pulled, pull}
 use Rattle.kernel_model.specs.Families.ChannelCalls.{Installed, install, is_nonblocking, must_wait_by, peeks, receive_from, receive_open, received, received_if, received_reply, received_with, taken_if, truncated}
 use Rattle.kernel_model.specs.Outcome.{Outcome, IsSuccess}
 use Rattle.kernel_model.specs.Reply.{refused}
 use Rattle.kernel_model.specs.State.{Table}
-
-pub on_err : {X E P : Type 0} (r : Result X E) → P → OnErr r P
-on_err (Ok x) h = tt
-on_err (Err e) h = h
-
-pub ok_more : {X E : Type 0} (P Q : X → Type 0) (r : Result X E) → ((x : X) → P x → Q x) → IfOk r P → IfOk r Q
-ok_more P Q (Ok x) more h = more x h
-ok_more P Q (Err e) more h = tt
-
-pub err_more : {X E P Q : Type 0} (r : Result X E) → (P → Q) → OnErr r P → OnErr r Q
-err_more (Ok x) more h = tt
-err_more (Err e) more h = more h
 
 -- ---- what goes on
 
@@ -45,20 +33,15 @@ receive_takes p table channels kind c w mode n room flags channel is there goes 
 
 -- ---- what is taken
 
--- the answer, the table and the channels are as the outcome says
-abbrev pub IsDone : Outcome → Answer → Table → Table → Channels → Channels → Type 0
-IsDone outcome given table after channels left =
-    (given ≡ outcome.answer) × (after ≡ table_after outcome.updates table) × (left ≡ channels_after outcome.updates channels)
-
-done_by : (o e : Outcome) (given : Answer) (table after : Table) (channels left : Channels) → o ≡ e → IsDone e given table after channels left
-    → IsDone o given table after channels left
-done_by o e given table after channels left is done = subst (λ (x : Outcome). IsDone x given table after channels left) (sym is) done
+done_by : (o e : Outcome) (given : Answer) (table after : Table) (channels left : Channels) → o ≡ e → IsSocketDone true e table after channels left (Ok given)
+    → IsSocketDone true o table after channels left (Ok given)
+done_by o e given table after channels left is done = subst (λ (x : Outcome). IsSocketDone true x table after channels left (Ok given)) (sym is) done
 
 pub take_done : (p : ℕ) (table : Table) (room c : ℕ) (channels : Channels) (pulled : Pulled) (installed : Installed) (given : Answer)
     (bytes fds : List ℕ) (flags : ℕ) (after : Table) (left : Channels)
     → install table (take room pulled.carried) ≡ Some installed → given ≡ answer.Reply (received_reply bytes fds flags)
     → bytes ≡ pulled.bytes → fds ≡ [] ++ installed.fds → flags ≡ truncated room pulled.carried → after ≡ installed.table → left ≡ insert channels c pulled.rest
-    → IsDone (received p table room c pulled) given table after channels left
+    → IsSocketDone true (received p table room c pulled) table after channels left (Ok given)
 take_done p table room c channels pulled installed given bytes fds flags after left is gives bytes_are fds_are flags_are table_is left_is =
     done_by (received p table room c pulled) (received_with p c pulled.bytes (truncated room pulled.carried) pulled.rest (Some installed)) given table after
     channels left (ap (received_with p c pulled.bytes (truncated room pulled.carried) pulled.rest) is) (
@@ -71,7 +54,7 @@ take_done p table room c channels pulled installed given bytes fds flags after l
 
 pub take_none : (p : ℕ) (table : Table) (room c : ℕ) (channels : Channels) (pulled : Pulled) (given : Answer)
     → install table (take room pulled.carried) ≡ None → given ≡ answer.Reply (refused Mfile)
-    → IsDone (received p table room c pulled) given table table channels channels
+    → IsSocketDone true (received p table room c pulled) table table channels channels (Ok given)
 take_none p table room c channels pulled given is gives =
     done_by (received p table room c pulled) (received_with p c pulled.bytes (truncated room pulled.carried) pulled.rest None) given table table channels channels
     (ap (received_with p c pulled.bytes (truncated room pulled.carried) pulled.rest) is) (gives, refl, refl)

@@ -1,5 +1,6 @@
 pub mod Calls
 pub mod Codes
+pub mod Done
 pub mod Kept
 pub mod Leaving
 pub mod Pairs

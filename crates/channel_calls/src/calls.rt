@@ -1,11 +1,11 @@
 //! The calls on ends of channels.
-ghost use Rattle.std.specs.Prelude.{◌≡◌, ◌+◌, ◌≤◌, ◌^◌, ◌<◌, ℕ, true, IfOk, OnErr, Some};
+ghost use Rattle.std.specs.Prelude.{◌≡◌, ◌+◌, ◌≤◌, ℕ, true, OnErr, Some};
 ghost use Rattle.std.specs.FinMap as map;
 ghost use Rattle.abi_types.specs.Families.{call_of_offset, call_of_socket};
-ghost use Rattle.channel_calls.specs.Calls.{AreCarried, AreFew, AreMoved, carriers_in, channels_after, end_outcome, seen_in, socket_outcome, table_after};
+ghost use Rattle.channel_calls.specs.Calls.{AreCarried, AreFew, AreMoved, carriers_in, end_outcome, seen_in, socket_outcome};
+ghost use Rattle.channel_calls.specs.Done.{IsEndDone, IsSocketDone};
 ghost use Rattle.kernel_model.specs.Calls.{takes_memory};
 ghost use Rattle.kernel_model.specs.Families.ChannelCalls.{picked, send_open};
-ghost use Rattle.kernel_model.specs.Outcome.{IsSuccess};
 ghost use Rattle.kernel_model.specs.Release.{count_in};
 ghost use Rattle.maps.specs.Maps.{number};
 
@@ -29,14 +29,10 @@ pub fn on_end(
     call: OffsetCall<'_>,
 ) -> Result<Answer, AllocError>
     requires covered { (o : ℕ) → carriers_in o channels.old ≤ number (map.get objects.old.counts o) }
-    ensures ok { IfOk result (λ given. (given ≡ (end_outcome channels.old kind.now (call_of_offset call.entry)).answer)
-        × (channels.new ≡ channels_after (end_outcome channels.old kind.now (call_of_offset call.entry)).updates channels.old)) }
-    ensures takes { OnErr result (takes_memory (call_of_offset call.entry) ≡ true) }
-    ensures only { OnErr result (IsSuccess (end_outcome channels.old kind.now (call_of_offset call.entry)).answer) }
+    ensures done { IsEndDone (takes_memory (call_of_offset call.entry)) (end_outcome channels.old kind.now (call_of_offset call.entry)) channels.old channels.new result }
     ensures kinds { objects.new.kinds ≡ objects.old.kinds }
     ensures counts { AreCarried channels.old channels.new objects.old.counts objects.new.counts }
     ensures few { AreFew channels.old → AreFew channels.new }
-    ensures same_channels { OnErr result (channels.new ≡ channels.old) }
     ensures same_objects { OnErr result (objects.new ≡ objects.old) }
 {
     let OpenKind::End {
@@ -74,16 +70,10 @@ pub fn on_socket(
     call: SocketCall<'_>,
 ) -> Result<Answer, AllocError>
     requires covered { (o : ℕ) → count_in o table.old + carriers_in o channels.old ≤ number (map.get objects.old.counts o) }
-    ensures ok { IfOk result (λ given. (p : ℕ) → (given ≡ (socket_outcome p table.old channels.old kind.now (call_of_socket call.entry)).answer)
-        × (table.new ≡ table_after (socket_outcome p table.old channels.old kind.now (call_of_socket call.entry)).updates table.old)
-        × (channels.new ≡ channels_after (socket_outcome p table.old channels.old kind.now (call_of_socket call.entry)).updates channels.old)) }
-    ensures takes { OnErr result (takes_memory (call_of_socket call.entry) ≡ true) }
-    ensures only { OnErr result ((p : ℕ) → IsSuccess (socket_outcome p table.old channels.old kind.now (call_of_socket call.entry)).answer) }
+    ensures done { (p : ℕ) → IsSocketDone (takes_memory (call_of_socket call.entry)) (socket_outcome p table.old channels.old kind.now (call_of_socket call.entry)) table.old table.new channels.old channels.new result }
     ensures kinds { objects.new.kinds ≡ objects.old.kinds }
     ensures counts { AreMoved table.old channels.old table.new channels.new objects.old.counts objects.new.counts }
     ensures few_carriers { AreFew channels.old → AreFew channels.new }
-    ensures same_table { OnErr result (table.new ≡ table.old) }
-    ensures same_channels { OnErr result (channels.new ≡ channels.old) }
     ensures same_objects { OnErr result (objects.new ≡ objects.old) }
 {
     match call {
@@ -117,13 +107,10 @@ fn send(
     fds: &[u32],
 ) -> Result<Answer, AllocError>
     requires covered { (o : ℕ) → count_in o table.now + carriers_in o channels.old ≤ number (map.get objects.old.counts o) }
-    ensures ok { IfOk result (λ given. (given ≡ (send_open (seen_in channels.old) bytes.now (picked table.now fds.now) (Some kind.now)).answer)
-        × (channels.new ≡ channels_after (send_open (seen_in channels.old) bytes.now (picked table.now fds.now) (Some kind.now)).updates channels.old)) }
-    ensures only { OnErr result (IsSuccess (send_open (seen_in channels.old) bytes.now (picked table.now fds.now) (Some kind.now)).answer) }
+    ensures done { IsEndDone true (send_open (seen_in channels.old) bytes.now (picked table.now fds.now) (Some kind.now)) channels.old channels.new result }
     ensures kinds { objects.new.kinds ≡ objects.old.kinds }
     ensures counts { AreCarried channels.old channels.new objects.old.counts objects.new.counts }
     ensures few { AreFew channels.old → AreFew channels.new }
-    ensures same_channels { OnErr result (channels.new ≡ channels.old) }
     ensures same_objects { OnErr result (objects.new ≡ objects.old) }
 {
     let OpenKind::End {

@@ -1,14 +1,15 @@
 //! What ends read and receive.
-ghost use Rattle.std.specs.Prelude.{◌≡◌, ◌+◌, ◌≤◌, ℕ, [], drop, length, IfOk, OnErr, Some, IsSome, IfSome, IsNone};
+ghost use Rattle.std.specs.Prelude.{◌≡◌, ◌+◌, ◌≤◌, ℕ, [], true, drop, length, IfOk, OnErr, Some, IsSome, IfSome, IsNone};
 ghost use Rattle.std.specs.FinMap as map;
 ghost use Rattle.abi_base.specs.declared.errno.Errno.TheVariants.{Notsock};
 ghost use Rattle.abi_types.specs.declared.open_kind.OpenKind.TheVariants.{End};
 ghost use Rattle.abi_types.specs.declared.reply.Answer.TheVariants as answer;
-ghost use Rattle.channel_calls.specs.Calls.{AreCarried, AreFew, AreMoved, carriers_in, channels_after, seen_in, table_after};
+ghost use Rattle.channel_calls.specs.Calls.{AreCarried, AreFew, AreMoved, carriers_in, seen_in};
+ghost use Rattle.channel_calls.specs.Done.{IsEndDone, IsSocketDone};
 ghost use Rattle.channel_calls.specs.Kept.{IsAt};
 ghost use Rattle.kernel_model.specs.Channels.{pull};
 ghost use Rattle.kernel_model.specs.Families.ChannelCalls.{is_nonblocking, must_wait_by, read_end, receive_open, received, received_reply, waits_unless};
-ghost use Rattle.kernel_model.specs.Outcome.{IsSuccess, replies};
+ghost use Rattle.kernel_model.specs.Outcome.{replies};
 ghost use Rattle.kernel_model.specs.Release.{count_carried, count_in};
 ghost use Rattle.kernel_model.specs.Reply.{refused};
 ghost use Rattle.kernel_model.specs.State.{Table};
@@ -73,13 +74,10 @@ pub(crate) fn read(
     length: u64,
 ) -> Result<Answer, AllocError>
     requires covered { (o : ℕ) → carriers_in o channels.old ≤ number (map.get objects.old.counts o) }
-    ensures ok { IfOk result (λ given. (given ≡ (read_end (seen_in channels.old) length flags reads).answer)
-        × (channels.new ≡ channels_after (read_end (seen_in channels.old) length flags reads).updates channels.old)) }
-    ensures only { OnErr result (IsSuccess (read_end (seen_in channels.old) length flags reads).answer) }
+    ensures done { IsEndDone true (read_end (seen_in channels.old) length flags reads) channels.old channels.new result }
     ensures kinds { objects.new.kinds ≡ objects.old.kinds }
     ensures counts { AreCarried channels.old channels.new objects.old.counts objects.new.counts }
     ensures few { AreFew channels.old → AreFew channels.new }
-    ensures same_channels { OnErr result (channels.new ≡ channels.old) }
     ensures same_objects { OnErr result (objects.new ≡ objects.old) }
 {
     let Some(id) = reads else {
@@ -176,15 +174,10 @@ fn take(
 ) -> Result<Answer, AllocError>
     requires there { IsSome (map.get channels.old id) }
     requires covered { (o : ℕ) → carriers_in o channels.old ≤ number (map.get objects.old.counts o) }
-    ensures ok { IfOk result (λ given. IsAt channels.old id (λ channel. (p : ℕ) → (given ≡ (received p table.old asked.now.room id (pull asked.now.length channel)).answer)
-        × (table.new ≡ table_after (received p table.old asked.now.room id (pull asked.now.length channel)).updates table.old)
-        × (channels.new ≡ channels_after (received p table.old asked.now.room id (pull asked.now.length channel)).updates channels.old))) }
-    ensures only { OnErr result (IsAt channels.old id (λ channel. (p : ℕ) → IsSuccess (received p table.old asked.now.room id (pull asked.now.length channel)).answer)) }
+    ensures done { IsAt channels.old id (λ channel. (p : ℕ) → IsSocketDone true (received p table.old asked.now.room id (pull asked.now.length channel)) table.old table.new channels.old channels.new result) }
     ensures kinds { objects.new.kinds ≡ objects.old.kinds }
     ensures counts { AreMoved table.old channels.old table.new channels.new objects.old.counts objects.new.counts }
     ensures few_carriers { AreFew channels.old → AreFew channels.new }
-    ensures same_table { OnErr result (table.new ≡ table.old) }
-    ensures same_channels { OnErr result (channels.new ≡ channels.old) }
     ensures same_objects { OnErr result (objects.new ≡ objects.old) }
 {
     check(channels, id);
@@ -221,15 +214,10 @@ pub(crate) fn receive(
     asked: &Asked,
 ) -> Result<Answer, AllocError>
     requires covered { (o : ℕ) → count_in o table.old + carriers_in o channels.old ≤ number (map.get objects.old.counts o) }
-    ensures ok { IfOk result (λ given. (p : ℕ) → (given ≡ (receive_open p table.old (seen_in channels.old) asked.now.length asked.now.room asked.now.flags (Some kind.now)).answer)
-        × (table.new ≡ table_after (receive_open p table.old (seen_in channels.old) asked.now.length asked.now.room asked.now.flags (Some kind.now)).updates table.old)
-        × (channels.new ≡ channels_after (receive_open p table.old (seen_in channels.old) asked.now.length asked.now.room asked.now.flags (Some kind.now)).updates channels.old)) }
-    ensures only { OnErr result ((p : ℕ) → IsSuccess (receive_open p table.old (seen_in channels.old) asked.now.length asked.now.room asked.now.flags (Some kind.now)).answer) }
+    ensures done { (p : ℕ) → IsSocketDone true (receive_open p table.old (seen_in channels.old) asked.now.length asked.now.room asked.now.flags (Some kind.now)) table.old table.new channels.old channels.new result }
     ensures kinds { objects.new.kinds ≡ objects.old.kinds }
     ensures counts { AreMoved table.old channels.old table.new channels.new objects.old.counts objects.new.counts }
     ensures few_carriers { AreFew channels.old → AreFew channels.new }
-    ensures same_table { OnErr result (table.new ≡ table.old) }
-    ensures same_channels { OnErr result (channels.new ≡ channels.old) }
     ensures same_objects { OnErr result (objects.new ≡ objects.old) }
 {
     let Some(socket) = socket_of(kind) else {

@@ -2,7 +2,8 @@
 ghost use Rattle.std.specs.Prelude.{◌≡◌, ◌+◌, ◌≤◌, ℕ, [], IfOk, IfErr, OnErr, IsTrue, length};
 ghost use Rattle.std.specs.FinMap as map;
 ghost use Rattle.channel_calls.specs.Calls.{AreCarried, AreFew, carriers_in};
-ghost use Rattle.channel_calls.specs.Sends.{AreCarriable, AreHeld, CanSend, IsNotSent, IsSent, Succeeds, answer_by};
+ghost use Rattle.channel_calls.specs.Done.{IsSendDone};
+ghost use Rattle.channel_calls.specs.Sends.{AreCarriable, AreHeld, CanSend, IsNotSent, answer_by};
 ghost use Rattle.channels.specs.Channels.{IsFilled, most_carried};
 ghost use Rattle.kernel_model.specs.Families.ChannelCalls.{is_nonblocking, picked, sent_reply, written_reply};
 ghost use Rattle.kernel_model.specs.Release.{count_carried, count_in};
@@ -105,12 +106,10 @@ pub(crate) fn send_bytes(
     bytes: &[u8],
 ) -> Result<Sending, AllocError>
     requires covered { (o : ℕ) → carriers_in o channels.old ≤ number (map.get objects.old.counts o) }
-    ensures ok { IfOk result (λ sending. IsSent channels.old channels.new end.now bytes.now [] sending) }
-    ensures only { OnErr result (Succeeds channels.old end.now bytes.now []) }
+    ensures done { IsSendDone channels.old channels.new end.now bytes.now [] result }
     ensures kinds { objects.new.kinds ≡ objects.old.kinds }
     ensures counts { AreCarried channels.old channels.new objects.old.counts objects.new.counts }
     ensures few { AreFew channels.old → AreFew channels.new }
-    ensures same_channels { OnErr result (channels.new ≡ channels.old) }
     ensures same_objects { OnErr result (objects.new ≡ objects.old) }
 {
     match ready(channels, end, bytes, 0) {
@@ -129,12 +128,10 @@ pub(crate) fn send_with(
     fds: &[u32],
 ) -> Result<Sending, AllocError>
     requires covered { (o : ℕ) → count_in o table.now + carriers_in o channels.old ≤ number (map.get objects.old.counts o) }
-    ensures ok { IfOk result (λ sending. IsSent channels.old channels.new end.now bytes.now (picked table.now fds.now) sending) }
-    ensures only { OnErr result (Succeeds channels.old end.now bytes.now (picked table.now fds.now)) }
+    ensures done { IsSendDone channels.old channels.new end.now bytes.now (picked table.now fds.now) result }
     ensures kinds { objects.new.kinds ≡ objects.old.kinds }
     ensures counts { AreCarried channels.old channels.new objects.old.counts objects.new.counts }
     ensures few { AreFew channels.old → AreFew channels.new }
-    ensures same_channels { OnErr result (channels.new ≡ channels.old) }
     ensures same_objects { OnErr result (objects.new ≡ objects.old) }
 {
     let mut carried = [NOTHING; MOST_CARRIED];
@@ -174,12 +171,10 @@ fn deliver(
     requires can { CanSend channels.old end.now bytes.now (length carried.now) id }
     requires covered { (o : ℕ) → carriers_in o channels.old ≤ number (map.get objects.old.counts o) }
     requires held { AreHeld objects.old.counts carried.now }
-    ensures ok { IfOk result (λ sending. IsSent channels.old channels.new end.now bytes.now carried.now sending) }
-    ensures only { OnErr result (Succeeds channels.old end.now bytes.now carried.now) }
+    ensures done { IsSendDone channels.old channels.new end.now bytes.now carried.now result }
     ensures kinds { objects.new.kinds ≡ objects.old.kinds }
     ensures counts { AreCarried channels.old channels.new objects.old.counts objects.new.counts }
     ensures few { AreFew channels.old → AreFew channels.new }
-    ensures same_channels { OnErr result (channels.new ≡ channels.old) }
     ensures same_objects { OnErr result (objects.new ≡ objects.old) }
 {
     if !may_carry(objects, carried) {

@@ -1,9 +1,8 @@
 //! What calls do at an open's offset.
-ghost use Rattle.std.specs.Prelude.{◌≡◌, true, IfOk, OnErr};
 ghost use Rattle.abi_types.specs.Families.{call_of_offset};
-ghost use Rattle.kernel_model.specs.Outcome.{IsSuccess};
+ghost use Rattle.kernel_model.specs.Calls.{takes_memory};
 ghost use Rattle.fd_calls.specs.Calls as model;
-ghost use Rattle.fd_calls.specs.AtOffset.{IsAtOffset};
+ghost use Rattle.fd_calls.specs.AtOffset.{IsOffsetDone};
 ghost use Rattle.file_calls.specs.Done.{HasSameNodes};
 ghost use Rattle.file_calls.specs.Opens.{IsThere};
 
@@ -23,11 +22,7 @@ pub fn at_offset(
     call: OffsetCall<'_>,
 ) -> Result<Reply, AllocError>
     requires { IsThere tree.old kind.old }
-    ensures ok { IfOk result (λ reply. IsAtOffset (model.offset_outcome_of now tree.old (call_of_offset call.entry) kind.old) tree.old tree.new kind.old kind.new reply) }
-    ensures takes { OnErr result ((model.offset_meaning (call_of_offset call.entry)).takes_memory ≡ true) }
-    ensures only { OnErr result (IsSuccess (model.offset_outcome_of now tree.old (call_of_offset call.entry) kind.old).outcome.answer) }
-    ensures same_tree { OnErr result (tree.new ≡ tree.old) }
-    ensures same_open { OnErr result (kind.new ≡ kind.old) }
+    ensures done { IsOffsetDone (takes_memory (call_of_offset call.entry)) (model.offset_outcome_of now tree.old (call_of_offset call.entry) kind.old) tree.old tree.new kind.old kind.new result }
     ensures nodes { HasSameNodes tree.old tree.new }
 {
     match call {

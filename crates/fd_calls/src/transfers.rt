@@ -1,8 +1,7 @@
 //! Reading and writing at an open's offset.
-ghost use Rattle.std.specs.Prelude.{◌≡◌, true, IfOk, OnErr};
+ghost use Rattle.std.specs.Prelude.{◌≡◌, true};
 ghost use Rattle.kernel_model.specs.Families.FileOffsets as model;
-ghost use Rattle.kernel_model.specs.Outcome.{IsSuccess};
-ghost use Rattle.fd_calls.specs.AtOffset.{IsAtOffset};
+ghost use Rattle.fd_calls.specs.AtOffset.{IsOffsetDone};
 ghost use Rattle.file_calls.specs.Done.{HasSameNodes};
 ghost use Rattle.file_calls.specs.Opens.{IsThere};
 
@@ -21,9 +20,7 @@ pub(crate) fn fd_read(
     kind: &mut OpenKind,
     most: u64,
 ) -> Result<Reply, AllocError>
-    ensures ok { IfOk result (λ reply. IsAtOffset (model.read_open_file tree.now most kind.old) tree.now tree.now kind.old kind.new reply) }
-    ensures only { OnErr result (IsSuccess (model.read_open_file tree.now most kind.old).outcome.answer) }
-    ensures err { OnErr result (kind.new ≡ kind.old) }
+    ensures { IsOffsetDone true (model.read_open_file tree.now most kind.old) tree.now tree.now kind.old kind.new result }
 {
     match kind {
         OpenKind::File { node, offset, .. } => {
@@ -59,9 +56,7 @@ pub(crate) fn fd_write(
     bytes: &[u8],
 ) -> Result<Reply, AllocError>
     requires { IsThere tree.old kind.old }
-    ensures ok { IfOk result (λ reply. IsAtOffset (model.write_open_file now tree.old bytes.now kind.old) tree.old tree.new kind.old kind.new reply) }
-    ensures only { OnErr result (IsSuccess (model.write_open_file now tree.old bytes.now kind.old).outcome.answer) }
-    ensures err { OnErr result ((tree.new ≡ tree.old) × (kind.new ≡ kind.old)) }
+    ensures done { IsOffsetDone true (model.write_open_file now tree.old bytes.now kind.old) tree.old tree.new kind.old kind.new result }
     ensures nodes { HasSameNodes tree.old tree.new }
 {
     match kind {

@@ -1,3 +1,4 @@
+pub mod Done
 pub mod Walks
 pub mod Reworked
 pub mod Heads

@@ -1,13 +1,12 @@
 //! Changes of a file's size, and of the times of a node.
-ghost use Rattle.std.specs.Prelude.{◌≡◌, ◌+◌, ◌≤◌, ◌==◌, bit_and, true, IfOk, OnOk, OnErr, Some};
+ghost use Rattle.std.specs.Prelude.{◌≡◌, ◌+◌, ◌≤◌, ◌==◌, bit_and, true, OnOk, OnErr, Some};
 ghost use Rattle.abi_types.specs.declared.node.Times.{Times};
 ghost use Rattle.abi_types.specs.declared.reply.Answer.TheVariants as answer;
 ghost use Rattle.tree_model.specs.Changes.{is_file};
 ghost use Rattle.tree_model.specs.declared.limits.TheConstants.{MOST_FILE_BYTES};
 ghost use Rattle.kernel_model.specs.Families.FileChanges as model;
 ghost use Rattle.kernel_model.specs.Families.FilePaths as paths;
-ghost use Rattle.kernel_model.specs.Outcome.{IsSuccess};
-ghost use Rattle.file_calls.specs.Done.{HasSameNodes, IsDone};
+ghost use Rattle.file_calls.specs.Done.{HasSameNodes, IsDone, IsTreeDone};
 ghost use Rattle.file_calls.specs.Opens.{IsThere};
 
 use crate::path_fault::reply_of;
@@ -196,9 +195,7 @@ pub(crate) fn file_allocate(
     length: u64,
 ) -> Result<Reply, AllocError>
     requires { IsThere tree.old kind.now }
-    ensures ok { IfOk result (λ reply. IsDone (model.allocate (offset + length) now tree.old (Some kind.now)) tree.old tree.new reply) }
-    ensures only { OnErr result (IsSuccess (model.allocate (offset + length) now tree.old (Some kind.now)).answer) }
-    ensures err { OnErr result (tree.new ≡ tree.old) }
+    ensures done { IsTreeDone true (model.allocate (offset + length) now tree.old (Some kind.now)) tree.old tree.new result }
     ensures nodes { HasSameNodes tree.old tree.new }
 {
     match kind {
@@ -226,9 +223,7 @@ pub(crate) fn file_stat_fput(
     flags: u32,
 ) -> Result<Reply, AllocError>
     requires { IsThere tree.old kind.now }
-    ensures ok { IfOk result (λ reply. IsDone (model.put_open flags stat.now now tree.old (Some kind.now)) tree.old tree.new reply) }
-    ensures only { OnErr result (IsSuccess (model.put_open flags stat.now now tree.old (Some kind.now)).answer) }
-    ensures err { OnErr result (tree.new ≡ tree.old) }
+    ensures done { IsTreeDone true (model.put_open flags stat.now now tree.old (Some kind.now)) tree.old tree.new result }
     ensures nodes { HasSameNodes tree.old tree.new }
 {
     match kind {

@@ -1,9 +1,8 @@
 //! What calls do on an open.
-ghost use Rattle.std.specs.Prelude.{◌≡◌, true, IfOk, OnErr, Some};
+ghost use Rattle.std.specs.Prelude.{Some};
 ghost use Rattle.abi_types.specs.Families.{call_of_file};
 ghost use Rattle.kernel_model.specs.Families.FileCalls as model;
-ghost use Rattle.kernel_model.specs.Outcome.{IsSuccess};
-ghost use Rattle.file_calls.specs.Done.{HasSameNodes, IsDone};
+ghost use Rattle.file_calls.specs.Done.{HasSameNodes, IsTreeDone};
 ghost use Rattle.file_calls.specs.Opens.{IsThere};
 
 use crate::changes::{file_allocate, file_stat_fput, file_stat_put};
@@ -26,10 +25,8 @@ pub fn on_open(
     call: FileCall<'_>,
 ) -> Result<Reply, AllocError>
     requires { IsThere tree.old kind.now }
-    ensures ok { IfOk result (λ reply. IsDone ((model.file_meaning (call_of_file call.entry)).effect now tree.old (Some kind.now)) tree.old tree.new reply) }
-    ensures takes { OnErr result ((model.file_meaning (call_of_file call.entry)).takes_memory ≡ true) }
-    ensures only { OnErr result (IsSuccess ((model.file_meaning (call_of_file call.entry)).effect now tree.old (Some kind.now)).answer) }
-    ensures err { OnErr result (tree.new ≡ tree.old) }
+    ensures done { IsTreeDone (model.file_meaning (call_of_file call.entry)).takes_memory
+        ((model.file_meaning (call_of_file call.entry)).effect now tree.old (Some kind.now)) tree.old tree.new result }
     ensures nodes { HasSameNodes tree.old tree.new }
 {
     match call {

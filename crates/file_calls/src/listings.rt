@@ -1,10 +1,10 @@
 //! The entries of a directory.
-ghost use Rattle.std.specs.Prelude.{◌≡◌, ◌+◌, ◌++◌, ◌<◌, ◌^◌, ◌≢◌, [], take, length, IfOk, OnOk, OnErr, Some, option_copied};
+ghost use Rattle.std.specs.Prelude.{◌≡◌, ◌+◌, ◌++◌, ◌<◌, ◌^◌, ◌≢◌, [], true, take, length, IfOk, OnOk, Some, option_copied};
 ghost use Rattle.std.specs.FinMap as map;
 ghost use Rattle.abi_layout.specs.Laws.{AreBytes};
 ghost use Rattle.kernel_model.specs.Families.FileLooks as looks;
-ghost use Rattle.kernel_model.specs.Outcome.{IsSuccess, replies};
 ghost use Rattle.kernel_model.specs.Reply as reply;
+ghost use Rattle.file_calls.specs.Done.{IsReadDone};
 ghost use Rattle.file_calls.specs.Heads.{low_head};
 
 use crate::stats::node_type;
@@ -120,8 +120,7 @@ fn list_names(
     most: u64,
     position: u64,
 ) -> Result<Reply, AllocError>
-    ensures ok { IfOk result (λ reply. replies reply ≡ looks.list_names tree.now most position (map.get tree.now.names dir)) }
-    ensures only { OnErr result (IsSuccess (looks.list_names tree.now most position (map.get tree.now.names dir)).answer) }
+    ensures { IsReadDone true (looks.list_names tree.now most position (map.get tree.now.names dir)) result }
 {
     let Some(entries) = tree.names_from(dir, position) else {
         return Ok(refused(Errno::Badf));
@@ -142,8 +141,7 @@ pub(crate) fn file_readdir(
     most: u64,
     position: u64,
 ) -> Result<Reply, AllocError>
-    ensures ok { IfOk result (λ reply. replies reply ≡ looks.list_open most position tree.now (Some kind.now)) }
-    ensures only { OnErr result (IsSuccess (looks.list_open most position tree.now (Some kind.now)).answer) }
+    ensures { IsReadDone true (looks.list_open most position tree.now (Some kind.now)) result }
 {
     match kind {
         OpenKind::Directory { node, .. } => list_names(alloc, tree, *node, most, position),

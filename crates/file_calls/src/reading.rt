@@ -1,9 +1,9 @@
 //! Bytes of a file that are read at a place of the call's own, or mapped.
-ghost use Rattle.std.specs.Prelude.{◌≡◌, ◌+◌, ◌<◌, ◌^◌, length, true, IfOk, OnErr, Some};
+ghost use Rattle.std.specs.Prelude.{◌≡◌, ◌+◌, ◌<◌, ◌^◌, length, true, IfOk, Some};
 ghost use Rattle.tree_model.specs.Files.{read_bytes};
 ghost use Rattle.kernel_model.specs.Families.FileBytes as model;
 ghost use Rattle.kernel_model.specs.Families.MemoryCalls as maps;
-ghost use Rattle.kernel_model.specs.Outcome.{IsSuccess, replies};
+ghost use Rattle.file_calls.specs.Done.{IsReadDone};
 
 use crate::listings::content;
 use abi_base::PAGE_SIZE;
@@ -44,8 +44,7 @@ pub(crate) fn fd_pread(
     most: u64,
     at: u64,
 ) -> Result<Reply, AllocError>
-    ensures ok { IfOk result (λ reply. replies reply ≡ model.read_at most at tree.now (Some kind.now)) }
-    ensures only { OnErr result (IsSuccess (model.read_at most at tree.now (Some kind.now)).answer) }
+    ensures { IsReadDone true (model.read_at most at tree.now (Some kind.now)) result }
 {
     match kind {
         OpenKind::File { node, .. } => Ok(content(read_file(alloc, tree, *node, at, most)?)),
@@ -73,9 +72,7 @@ pub(crate) fn map_file(
     length: u64,
     offset: u64,
 ) -> Result<Reply, AllocError>
-    ensures ok { IfOk result (λ reply. replies reply ≡ maps.map_open place length offset tree.now (Some kind.now)) }
-    ensures place { OnErr result (maps.has_place place ≡ true) }
-    ensures only { OnErr result (IsSuccess (maps.map_open place length offset tree.now (Some kind.now)).answer) }
+    ensures { IsReadDone (maps.has_place place) (maps.map_open place length offset tree.now (Some kind.now)) result }
 {
     let OpenKind::File { node, .. } = kind else {
         return Ok(refused(Errno::Badf));

@@ -1,9 +1,9 @@
 //! The text of a symlink.
-ghost use Rattle.std.specs.Prelude.{◌≡◌, IfOk, OnErr, Some};
+ghost use Rattle.std.specs.Prelude.{true, Some};
 ghost use Rattle.path_lookup.specs.declared.ends.WalkMode.TheVariants.{NoFollow};
 ghost use Rattle.kernel_model.specs.Families.FileLooks as looks;
 ghost use Rattle.kernel_model.specs.Families.FilePaths as model;
-ghost use Rattle.kernel_model.specs.Outcome.{IsSuccess, replies};
+ghost use Rattle.file_calls.specs.Done.{IsReadDone};
 
 use crate::listings::{content, room_of};
 use crate::path_fault::reply_of;
@@ -16,8 +16,7 @@ use std::alloc::{AllocError, Global};
 
 // The text of a symlink, as much as there is room for.
 fn read_link(alloc: Global, most: u64, kind: &NodeKind) -> Result<Reply, AllocError>
-    ensures ok { IfOk result (λ reply. replies reply ≡ looks.read_link most kind.now) }
-    ensures only { OnErr result (IsSuccess (looks.read_link most kind.now).answer) }
+    ensures { IsReadDone true (looks.read_link most kind.now) result }
 {
     match kind {
         NodeKind::Link(text) => {
@@ -31,8 +30,7 @@ fn read_link(alloc: Global, most: u64, kind: &NodeKind) -> Result<Reply, AllocEr
 
 // The text of the symlink of this number.
 fn read_node(alloc: Global, tree: &Tree, most: u64, id: ObjId) -> Result<Reply, AllocError>
-    ensures ok { IfOk result (λ reply. replies reply ≡ looks.read_link_in most tree.now id) }
-    ensures only { OnErr result (IsSuccess (looks.read_link_in most tree.now id).answer) }
+    ensures { IsReadDone true (looks.read_link_in most tree.now id) result }
 {
     match tree.node(id) {
         Some(node) => read_link(alloc, most, &node.kind),
@@ -48,10 +46,7 @@ pub(crate) fn file_readlink(
     path: &[u8],
     most: u64,
 ) -> Result<Reply, AllocError>
-    ensures ok { IfOk result (λ reply. replies reply
-        ≡ model.at_walked (looks.read_link_in most tree.now) (model.walked tree.now NoFollow path.now (Some kind.now))) }
-    ensures only { OnErr result (IsSuccess
-        (model.at_walked (looks.read_link_in most tree.now) (model.walked tree.now NoFollow path.now (Some kind.now))).answer) }
+    ensures { IsReadDone true (model.at_walked (looks.read_link_in most tree.now) (model.walked tree.now NoFollow path.now (Some kind.now))) result }
 {
     match found(tree, WalkMode::NoFollow, path, kind) {
         Ok(node) => read_node(alloc, tree, most, node),

@@ -3,8 +3,7 @@ ghost use Rattle.std.specs.Prelude.{◌≡◌, ◌<◌, ◌≢◌, [], true, IfO
 ghost use Rattle.tree_model.specs.Changes.{is_file};
 ghost use Rattle.tree_model.specs.declared.limits.TheConstants.{MOST_FILE_BYTES};
 ghost use Rattle.kernel_model.specs.Families.FileBytes as model;
-ghost use Rattle.kernel_model.specs.Outcome.{IsSuccess};
-ghost use Rattle.file_calls.specs.Done.{HasSameNodes, IsDone};
+ghost use Rattle.file_calls.specs.Done.{HasSameNodes, IsTreeDone};
 ghost use Rattle.file_calls.specs.Opens.{IsThere};
 
 use crate::changes::set_modified;
@@ -48,9 +47,7 @@ pub(crate) fn fd_pwrite(
     bytes: &[u8],
 ) -> Result<Reply, AllocError>
     requires { IsThere tree.old kind.now }
-    ensures ok { IfOk result (λ reply. IsDone (model.write_at bytes.now at now tree.old (Some kind.now)) tree.old tree.new reply) }
-    ensures only { OnErr result (IsSuccess (model.write_at bytes.now at now tree.old (Some kind.now)).answer) }
-    ensures err { OnErr result (tree.new ≡ tree.old) }
+    ensures done { IsTreeDone true (model.write_at bytes.now at now tree.old (Some kind.now)) tree.old tree.new result }
     ensures nodes { HasSameNodes tree.old tree.new }
 {
     let OpenKind::File { node, .. } = kind else {

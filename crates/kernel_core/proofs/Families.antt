@@ -1,7 +1,7 @@
 -- What a call means, by the part of the kernel that does it.
 --     file_on, offset_on, entries_on      the descriptors of a view are those on whose opens its call works
 --     change_does, poll_does, zeros_does, answered_does, unbuilt_does      what such a call does
---     change_replaces, change_takes_memory      a number that is replaced is there;  memory may run out for a new number
+--     change_replaces      a number that is replaced is there
 --     all_named      where a call isn't refused each descriptor that it names is there
 use Rattle.std.proofs.Common.{◌≡◌, Bool, true, false, cond, List, [], Option, None, Some, refl, sym, ap, ◌∷◌, ◌∙◌}
 use Rattle.abi_base.specs.declared.errno.Errno.{Errno}
@@ -40,7 +40,7 @@ use Rattle.kernel_model.specs.View.{View, whole}
 use Rattle.kernel_model.proofs.Lacks.{all_present}
 use Rattle.kernel_model.proofs.Tests.{none_is_no, not_true, same_some}
 use Rattle.kernel_model.proofs.Polls.{told_holds}
-use Rattle.kernel_parts.specs.Changes.{HasReplaced, IsDup, change_outcome}
+use Rattle.kernel_parts.specs.Changes.{HasReplaced, change_outcome}
 use Rattle.poll_set.specs.Polls.{first_of, poll_outcome, sight}
 use Rattle.poll_set.proofs.PollReads.{poll_reads, poll_takes_memory}
 use Rattle.kernel_core.proofs.Changes.{put_is}
@@ -85,12 +85,6 @@ change_replaces table (Close fd) all = tt
 change_replaces table (Dup fd) all = tt
 change_replaces table (Replace from to) all = all.1.0
 change_replaces table (StatPut fd stat flags) all = tt
-
-pub change_takes_memory : (v : DescriptorChange) → IsDup v → takes_memory (call_of_change v) ≡ true
-change_takes_memory (Close fd) h = absurd h
-change_takes_memory (Dup fd) h = refl
-change_takes_memory (Replace from to) h = absurd h
-change_takes_memory (StatPut fd stat flags) h = absurd h
 
 -- ---- calls that need no view
 

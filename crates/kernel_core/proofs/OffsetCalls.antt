@@ -1,14 +1,15 @@
 -- Calls that move the open of a descriptor: what their meanings come to by the table, and the state after them.
---     offset_does      a call means what its outcome is;  offset_takes_memory      memory may run out in it
+--     offset_does      a call means what its outcome is
 --     absent_comes      without a descriptor or an open it comes to BADF
---     stream_is, stream_outcome_is, stream_left      on a standard stream;  the state after it is that of its outcome
+--     stream_is, stream_outcome_is, stream_done      on a standard stream;  it is done there
 --     end_outcome_is      on an end of channels
 --     offset_is, offset_outcome_is, offset_keeps      on any other open: it moves the open and changes the file tree;  it keeps what stands behind the open
 --     offset_valid, offset_done      the state after it is valid, and that of its outcome, of which nothing is released
-use Rattle.std.proofs.Common.{◌≡◌, ◌≢◌, ℕ, ◌+◌, ◌==◌, ◌&&◌, Bool, true, false, cond, List, [], ◌∷◌, ◌++◌, Option, None, Some, IsSome, refl, sym, ap, subst, ◌∙◌}
+use Rattle.std.proofs.Common.{◌≡◌, ◌≢◌, ℕ, ◌+◌, ◌==◌, ◌&&◌, Bool, true, false, cond, List, [], ◌∷◌, ◌++◌, Option, None, Some, IsSome, Result, Ok, Err, refl, sym, ap, subst, ◌∙◌}
 use Rattle.std.specs.Ordering.{nat_cmp}
 use Rattle.std.specs.FinMap.{FinMap, get, insert}
 use Rattle.std.specs.List.{AllByRecursion}
+use Rattle.std.specs.declared.alloc.AllocError.{AllocError}
 use Rattle.abi_base.specs.declared.errno.Errno.TheVariants.{Badf, Fbig}
 use Rattle.abi_base.specs.declared.rights.TheConstants.Rights.{FD_SEEK, FD_TELL}
 use Rattle.abi_types.specs.declared.call.Call.{Call}
@@ -18,6 +19,7 @@ use Rattle.abi_types.specs.declared.descriptor.Descriptor.{Descriptor}
 use Rattle.abi_types.specs.declared.node.Node.{Node}
 use Rattle.abi_types.specs.declared.open_kind.OpenKind.{OpenKind}
 use Rattle.abi_types.specs.declared.open_kind.OpenKind.TheVariants.{File, Directory, End, Terminal, Process}
+use Rattle.abi_types.specs.declared.reply.Answer.{Answer}
 use Rattle.abi_types.specs.declared.reply.Answer.TheVariants as answer
 use Rattle.abi_types.specs.declared.reply.Reply.{Reply}
 use Rattle.abi_types.specs.declared.stream.Stream.{Stream}
@@ -49,10 +51,9 @@ use Rattle.kernel_model.proofs.StreamCalls.{read_opens_well, seek_opens_well, wr
 use Rattle.kernel_model.proofs.Tests.{none_is_no, same_some}
 use Rattle.kernel_model.proofs.Valids.{IsSameBehind, release_valid, set_open_nearly_valid, some_again}
 use Rattle.kernel_parts.specs.Entries.{open_in}
-use Rattle.kernel_parts.specs.StreamCalls.{terms_after}
-use Rattle.kernel_model.specs.Done.{IsAnswered}
+use Rattle.kernel_model.specs.Done.{IsAnswered, IsDone}
 use Rattle.kernel_core.specs.OffsetCalls.{offset_outcome}
-use Rattle.kernel_parts.specs.StreamCalls.{stream_outcome}
+use Rattle.kernel_parts.specs.StreamCalls.{IsStreamDone, stream_outcome, terms_after}
 use Rattle.kernel_core.proofs.Channels.{end_is}
 use Rattle.kernel_core.proofs.FileCalls.{tree_valid, with_tree}
 use Rattle.kernel_core.proofs.Streams.{written_valid}
@@ -71,12 +72,6 @@ offset_does constants S who table (call.FdSeek n offset whence) fd is =
     ap (λ k. offset_outcome constants S table k (call.FdSeek n offset whence)) (seek_fd n ((offset == 0) && (whence == 1)) ∙ same_some n fd is)
 offset_does constants S who table (call.FdWrite n bytes) fd is = ap (λ k. offset_outcome constants S table k (call.FdWrite n bytes)) (same_some n fd is)
 offset_does constants S who table other fd is = absurd (none_is_no fd is)
-
-pub offset_takes_memory : (called : Call) (fd : ℕ) → offset_fd called ≡ Some fd → (offset_meaning called).takes_memory ≡ true → takes_memory called ≡ true
-offset_takes_memory (call.FdRead n length) fd is takes = takes
-offset_takes_memory (call.FdSeek n offset whence) fd is takes = takes
-offset_takes_memory (call.FdWrite n bytes) fd is takes = takes
-offset_takes_memory other fd is takes = absurd (none_is_no fd is)
 
 offset_well : (called : Call) (fd : ℕ) → offset_fd called ≡ Some fd → OpensWell (offset_meaning called)
 offset_well (call.FdRead n length) fd is = read_opens_well length
@@ -139,12 +134,19 @@ stream_puts (call.FdWrite n bytes) S which (Some stream) = refl
 stream_puts other S which stream = refl
 
 -- the state with other streams is that of the outcome, of which nothing is released
-pub stream_left : (called : Call) (S : State) (which : ℕ) (terms : FinMap nat_cmp Stream) → IsValid S → ((k : ℕ) → IsSome (get S.terms k) → IsSome (get terms k))
+stream_left : (called : Call) (S : State) (which : ℕ) (terms : FinMap nat_cmp Stream) → IsValid S → ((k : ℕ) → IsSome (get S.terms k) → IsSome (get terms k))
     → terms ≡ terms_after (stream_outcome called which (get S.terms which)).updates S.terms
     → with_terms S terms ≡ release (put_all (stream_outcome called which (get S.terms which)).updates S)
 stream_left called S which terms valid stays left =
     sym (release_valid (with_terms S terms) (written_valid S terms stays valid))
     ∙ ap release (ap (with_terms S) left ∙ sym (stream_puts called S which (get S.terms which)))
+
+pub stream_done : (called : Call) (S : State) (which : ℕ) (terms : FinMap nat_cmp Stream) (r : Result Answer AllocError) → IsValid S
+    → ((k : ℕ) → IsSome (get S.terms k) → IsSome (get terms k))
+    → IsStreamDone (takes_memory called) (stream_outcome called which (get S.terms which)) S.terms terms r
+    → IsDone (takes_memory called) (stream_outcome called which (get S.terms which)) S (with_terms S terms) r
+stream_done called S which terms (Ok given) valid stays done = (done.0, stream_left called S which terms valid stays done.1)
+stream_done called S which terms (Err e) valid stays done = (done.0, done.1, ap (with_terms S) done.2)
 
 -- ---- ends of channels
 

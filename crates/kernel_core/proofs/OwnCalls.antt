@@ -5,7 +5,6 @@
 --     own_left, own_kept, own_released      the state after them
 --     IsOwnCall, own_call, own_call_kept, own_call_done      a call that comes to such updates: its state is kept, and it is done
 use Rattle.std.proofs.Common.{◌≡◌, ◌⊎◌, ℕ, true, false, List, [], ◌∷◌, Bool, Option, None, Some, IsSome, is_some, Result, Ok, Err, inl, inr, refl, sym, ap, subst, ◌∙◌}
-use Rattle.std.specs.Prelude.{OnErr, IfOk}
 use Rattle.std.specs.Ordering.{nat_cmp}
 use Rattle.std.specs.FinMap.{FinMap, get}
 use Rattle.std.specs.declared.alloc.AllocError.{AllocError}
@@ -20,7 +19,7 @@ use Rattle.abi_types.specs.declared.thread.Stage.{Stage}
 use Rattle.kernel_model.specs.Families.LockCalls.{signal_in, unlock_in, waited_outcome}
 use Rattle.kernel_model.specs.Families.Locks.{Release, handed, handed_own, handed_word, hands_on, leaves, refuses, release_of, released_threads, released_word, signalled, signalled_own, unlocked_own, with_threads}
 use Rattle.kernel_model.specs.Families.ProcessCalls.{end_updates, ended_process, is_last_thread, left_if_last, left_updates, made_in}
-use Rattle.kernel_model.specs.Outcome.{Outcome, IsSuccess}
+use Rattle.kernel_model.specs.Outcome.{Outcome}
 use Rattle.kernel_model.specs.OwnChanges.{drawn_more, with_next_thread, without_thread}
 use Rattle.kernel_model.specs.Release.{release}
 use Rattle.kernel_model.specs.State.{State, ProcessState, Threads, Update, put_all, set_process}
@@ -34,7 +33,7 @@ use Rattle.kernel_model.proofs.OwnChanges.{drawn_grows, ended_grows, set_process
 use Rattle.kernel_model.proofs.Tests.{none_is_no, not_true, same_some}
 use Rattle.kernel_model.proofs.ThreadCalls.{made_holds}
 use Rattle.kernel_model.proofs.Valids.{release_valid}
-use Rattle.kernel_parts.specs.OwnCalls.{own_after, IsOwnStep}
+use Rattle.kernel_parts.specs.OwnCalls.{own_after, IsOwnDone}
 use Rattle.kernel_model.specs.Done.{IsDone}
 use Rattle.kernel_core.specs.Kernel.{IsKept}
 use Rattle.kernel_core.specs.Threads.{is_last_in}
@@ -180,21 +179,18 @@ own_call S T U p n own new does same seen there put only =
     record { seen = seen; had = ap (get S.processes) (sym same) ∙ sym there; put = put ∙ ap (λ k. with_process S k new) same; only = only }
 
 module _ {S T U : State} {p : ℕ} {own new : ProcessState} {does : Option ProcessState → Outcome} (call : IsOwnCall S T U p own new does) where
-  pub own_call_kept : (r : Result Answer AllocError) (counts : FinMap nat_cmp ℕ) → IfOk r (λ given. IsOwnStep own new given (does (Some own)))
-      → OnErr r (new ≡ own) → IsKept S counts → IsKept U counts
-  own_call_kept (Ok given) counts done same kept =
+  pub own_call_kept : (r : Result Answer AllocError) (counts : FinMap nat_cmp ℕ) → IsOwnDone (does (Some own)) own new r → IsKept S counts → IsKept U counts
+  own_call_kept (Ok given) counts done kept =
       subst (λ X. IsKept X counts) (sym (call.put ∙ ap (with_process S p) done.1)) (own_kept S p own call.had (does (Some own)).updates call.only counts kept)
-  own_call_kept (Err e) counts done same kept =
-      subst (λ X. IsKept X counts) (sym (call.put ∙ ap (with_process S p) same ∙ process_again S p own call.had)) kept
+  own_call_kept (Err e) counts done kept =
+      subst (λ X. IsKept X counts) (sym (call.put ∙ ap (with_process S p) done.1 ∙ process_again S p own call.had)) kept
 
-  done_by : (r : Result Answer AllocError) → IfOk r (λ given. IsOwnStep own new given (does (Some own))) → OnErr r (IsSuccess (does (Some own)).answer)
-      → OnErr r (new ≡ own) → IsValid S → IsDone true (does (Some own)) S U r
-  done_by (Ok given) done succeeds same v =
+  done_by : (r : Result Answer AllocError) → IsOwnDone (does (Some own)) own new r → IsValid S → IsDone true (does (Some own)) S U r
+  done_by (Ok given) done v =
       (done.0, call.put ∙ ap (with_process S p) done.1 ∙ own_released S p own call.had (does (Some own)).updates call.only v)
-  done_by (Err e) done succeeds same v = (refl, succeeds, call.put ∙ ap (with_process S p) same ∙ process_again S p own call.had)
+  done_by (Err e) done v = (refl, done.0, call.put ∙ ap (with_process S p) done.1 ∙ process_again S p own call.had)
 
-  pub own_call_done : (r : Result Answer AllocError) → IfOk r (λ given. IsOwnStep own new given (does (Some own))) → OnErr r (IsSuccess (does (Some own)).answer)
-      → OnErr r (new ≡ own) → IsValid S → IsDone true (does (get T.processes p)) T U r
-  own_call_done r done succeeds same v =
+  pub own_call_done : (r : Result Answer AllocError) → IsOwnDone (does (Some own)) own new r → IsValid S → IsDone true (does (get T.processes p)) T U r
+  own_call_done r done v =
       done_seen S T call.seen true (λ X. does (get X.processes p)) U r
-      (done_as true (does (Some own)) (does (get S.processes p)) S U r (ap does (sym call.had)) (done_by r done succeeds same v))
+      (done_as true (does (Some own)) (does (get S.processes p)) S U r (ap does (sym call.had)) (done_by r done v))

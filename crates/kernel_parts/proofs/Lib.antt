@@ -2,6 +2,7 @@ pub mod Tests
 pub mod Lowest
 pub mod StatPuts
 pub mod Counts
+pub mod Done
 pub mod Grants
 pub mod Releases
 pub mod Forgetting

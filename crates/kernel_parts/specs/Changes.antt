@@ -1,16 +1,20 @@
 -- What a call does to its process's descriptors, and to the opens that they name.
-use Rattle.std.specs.Prelude.{◌≡◌, ℕ, ◌+◌, List, [], ◌∷◌, Option, None, Some, IsSome}
+use Rattle.std.specs.Prelude.{◌≡◌, ℕ, ◌+◌, Bool, true, List, [], ◌∷◌, Option, None, Some, IsSome, Result, Ok, Err}
 use Rattle.std.specs.Ordering.{nat_cmp}
 use Rattle.std.specs.FinMap.{FinMap, get, insert, remove}
+use Rattle.std.specs.declared.alloc.AllocError.{AllocError}
 use Rattle.abi_base.specs.declared.errno.Errno.TheVariants.{Badf}
 use Rattle.abi_structures.specs.declared.structures.FdStat.{FdStat}
 use Rattle.abi_types.specs.declared.descriptor.Descriptor.{Descriptor}
 use Rattle.abi_types.specs.declared.family.DescriptorChange.{DescriptorChange}
 use Rattle.abi_types.specs.declared.family.DescriptorChange.TheVariants.{Close, Dup, Replace, StatPut}
 use Rattle.abi_types.specs.declared.open_kind.OpenKind.{OpenKind}
+use Rattle.abi_types.specs.declared.reply.Answer.TheVariants as answer
+use Rattle.abi_types.specs.declared.reply.Reply.{Reply}
 use Rattle.maps.specs.Maps.{number}
+use Rattle.object_store.specs.Objects.{Held}
 use Rattle.kernel_model.specs.Families.DescriptorCalls.{dup_of, replaced_by, stat_set, with_table}
-use Rattle.kernel_model.specs.Outcome.{Outcome, replies}
+use Rattle.kernel_model.specs.Outcome.{Outcome, IsSuccess, replies}
 use Rattle.kernel_model.specs.Release.{count_in}
 use Rattle.kernel_model.specs.Reply.{refused}
 use Rattle.kernel_model.specs.State.{Table, Update, set_table, set_open}
@@ -48,7 +52,9 @@ abbrev pub HasReplaced : Table → DescriptorChange → Type 0
 HasReplaced table (Replace from to) = IsSome (get table to)
 HasReplaced table _ = Unit {0}
 
--- the change makes a number
-abbrev pub IsDup : DescriptorChange → Type 0
-IsDup (Dup fd) = Unit {0}
-IsDup _ = ⊥
+-- It comes to this reply, this table and these opens; or memory runs out, which it may in a call that takes some and would else succeed,
+-- and the table and what is held stay.
+abbrev pub IsChangeDone : Bool → Outcome → Table → Table → Held → Held → Result Reply AllocError → Type 0
+IsChangeDone takes outcome table after held left (Ok reply) =
+    (answer.Reply reply ≡ outcome.answer) × (after ≡ table_after table outcome.updates) × (left.kinds ≡ opens_after held.kinds outcome.updates)
+IsChangeDone takes outcome table after held left (Err error) = (takes ≡ true) × IsSuccess outcome.answer × (after ≡ table) × (left ≡ held)

@@ -1,9 +1,10 @@
 -- What calls do to what their process has of its own.
-use Rattle.std.specs.Prelude.{◌≡◌, ℕ, ◌+◌, List, [], ◌∷◌, Option, None, Some, if◌then◌else◌}
+use Rattle.std.specs.Prelude.{◌≡◌, ℕ, ◌+◌, List, [], ◌∷◌, Option, None, Some, Result, Ok, Err, if◌then◌else◌}
+use Rattle.std.specs.declared.alloc.AllocError.{AllocError}
 use Rattle.abi_types.specs.declared.reply.Answer.{Answer}
 use Rattle.kernel_model.specs.Families.ClockCalls.{can_draw}
 use Rattle.kernel_model.specs.Families.ProcessCalls.{can_make_thread}
-use Rattle.kernel_model.specs.Outcome.{Outcome}
+use Rattle.kernel_model.specs.Outcome.{Outcome, IsSuccess}
 use Rattle.kernel_model.specs.OwnChanges.{next_thread}
 use Rattle.kernel_model.specs.State.{ProcessState, Update, set_process}
 
@@ -24,3 +25,8 @@ own_after (update ∷ updates) own = own_after updates own
 -- a call that comes to this is done: its answer, and what its process has of its own before and after it
 abbrev pub IsOwnStep : ProcessState → ProcessState → Answer → Outcome → Type 0
 IsOwnStep own new given outcome = (given ≡ outcome.answer) × (new ≡ own_after outcome.updates own)
+
+-- it is done; or memory runs out where it would else succeed, and what its process has of its own stays
+abbrev pub IsOwnDone : Outcome → ProcessState → ProcessState → Result Answer AllocError → Type 0
+IsOwnDone outcome own new (Ok given) = IsOwnStep own new given outcome
+IsOwnDone outcome own new (Err error) = IsSuccess outcome.answer × (new ≡ own)

@@ -1,16 +1,15 @@
 //! What the kernel keeps of a process beside its descriptors and its status.
-ghost use Rattle.std.specs.Prelude.{true, is_some, ◌≡◌, ◌+◌, ◌<◌, ◌^◌, ℕ, ⊤, IfOk, OnOk, OnErr, IfSome, IsSome, Some, option_copied};
+ghost use Rattle.std.specs.Prelude.{true, is_some, ◌≡◌, ◌+◌, ◌<◌, ◌^◌, ℕ, ⊤, IfOk, OnErr, IfSome, IsSome, Some, option_copied};
 ghost use Rattle.std.specs.FinMap as map;
 ghost use Rattle.kernel_parts.specs.Activity.{activity_at, IsActivity};
 ghost use Rattle.kernel_parts.specs.Entries.{number_of};
-ghost use Rattle.kernel_parts.specs.OwnCalls.{new_thread, words_after, IsOwnStep};
+ghost use Rattle.kernel_parts.specs.OwnCalls.{new_thread, words_after, IsOwnDone};
 ghost use Rattle.kernel_parts.specs.Waiting.{kept_in};
 ghost use Rattle.clock_random.specs.Random.{random_bytes};
 ghost use Rattle.kernel_model.specs.Families.Children.{byte_unit};
 ghost use Rattle.kernel_model.specs.Families.ClockCalls.{can_draw, drawn_by};
 ghost use Rattle.kernel_model.specs.Families.Numbers.{made_more};
 ghost use Rattle.kernel_model.specs.Families.ProcessCalls.{ended_process, is_last_thread, made_in};
-ghost use Rattle.kernel_model.specs.Outcome.{IsSuccess};
 ghost use Rattle.kernel_model.specs.OwnChanges.{begun_anew, may_bear, with_next_child, without_thread};
 ghost use Rattle.kernel_model.specs.Families.ForkCalls.{can_fork, child_number, child_process};
 ghost use Rattle.kernel_model.specs.Start.{canary_words, first_process};
@@ -149,9 +148,7 @@ impl ProcessState {
     /// Makes a thread, which runs, for the thread `tid` of the process: its number is the first result. `Err` comes only where there
     /// is a number for it, and changes nothing.
     pub fn make_thread(&mut self, tid: Tid) -> Result<Answer, AllocError>
-        ensures ok { IfOk result (λ given. (p : ℕ) → IsOwnStep self.old self.new given (made_in p tid (Some self.old))) }
-        ensures only { OnErr result ((p : ℕ) → IsSuccess (made_in p tid (Some self.old)).answer) }
-        ensures err { OnErr result (self.new ≡ self.old) }
+        ensures { (p : ℕ) → IsOwnDone (made_in p tid (Some self.old)) self.old self.new result }
     {
         let Some(number) = self.new_thread(tid) else {
             return Ok(Answer::Reply(refused(Errno::Again)));
@@ -198,9 +195,7 @@ impl ProcessState {
         pid: Pid,
         length: u64,
     ) -> Result<Answer, AllocError>
-        ensures ok { IfOk result (λ given. IsOwnStep self.old self.new given (drawn_by constants.now pid (Some self.old) length)) }
-        ensures only { OnErr result (IsSuccess (drawn_by constants.now pid (Some self.old) length).answer) }
-        ensures err { OnErr result (self.new ≡ self.old) }
+        ensures { IsOwnDone (drawn_by constants.now pid (Some self.old) length) self.old self.new result }
     {
         let Some(after) = self.words_after(length.div_ceil(WORD_SIZE)) else {
             return Ok(Answer::Reply(refused(Errno::Again)));

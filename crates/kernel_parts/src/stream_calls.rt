@@ -1,10 +1,9 @@
 //! The calls that read from a standard stream or write to it.
-ghost use Rattle.std.specs.Prelude.{◌≡◌, ℕ, IsSome, IfOk, OnErr, true};
+ghost use Rattle.std.specs.Prelude.{ℕ, IsSome, true};
 ghost use Rattle.std.specs.FinMap as map;
 ghost use Rattle.abi_types.specs.Families.{call_of_offset};
-ghost use Rattle.fd_calls.specs.Calls as model;
-ghost use Rattle.kernel_model.specs.Outcome.{IsSuccess};
-ghost use Rattle.kernel_parts.specs.StreamCalls.{stream_outcome, terms_after};
+ghost use Rattle.kernel_model.specs.Calls.{takes_memory};
+ghost use Rattle.kernel_parts.specs.StreamCalls.{IsStreamDone, stream_outcome};
 ghost use Rattle.kernel_model.specs.Families.StreamCalls.{read_term, write_term};
 
 use crate::terminal::Terminal;
@@ -15,10 +14,7 @@ use std::alloc::{AllocError, Global};
 
 // Writes the bytes to a standard stream. `Err` changes nothing.
 fn write_term(terms: &mut NumMap<Terminal>, which: u32, bytes: &[u8]) -> Result<Answer, AllocError>
-    ensures ok { IfOk result (λ given. (given ≡ (write_term bytes.now which (map.get terms.old which)).answer)
-        × (terms.new ≡ terms_after (write_term bytes.now which (map.get terms.old which)).updates terms.old)) }
-    ensures only { OnErr result (IsSuccess (write_term bytes.now which (map.get terms.old which)).answer) }
-    ensures err { OnErr result (terms.new ≡ terms.old) }
+    ensures done { IsStreamDone true (write_term bytes.now which (map.get terms.old which)) terms.old terms.new result }
     ensures there { (k : ℕ) → IsSome (map.get terms.old k) → IsSome (map.get terms.new k) }
 {
     if !terms.contains(u64::from(which)) {
@@ -38,10 +34,7 @@ fn read_term(
     which: u32,
     most: u64,
 ) -> Result<Answer, AllocError>
-    ensures ok { IfOk result (λ given. (given ≡ (read_term most which (map.get terms.old which)).answer)
-        × (terms.new ≡ terms_after (read_term most which (map.get terms.old which)).updates terms.old)) }
-    ensures only { OnErr result (IsSuccess (read_term most which (map.get terms.old which)).answer) }
-    ensures err { OnErr result (terms.new ≡ terms.old) }
+    ensures done { IsStreamDone true (read_term most which (map.get terms.old which)) terms.old terms.new result }
     ensures there { (k : ℕ) → IsSome (map.get terms.old k) → IsSome (map.get terms.new k) }
 {
     if !terms.contains(u64::from(which)) {
@@ -64,11 +57,7 @@ pub fn on_stream(
     which: u32,
     call: OffsetCall<'_>,
 ) -> Result<Answer, AllocError>
-    ensures ok { IfOk result (λ given. (given ≡ (stream_outcome (call_of_offset call.entry) which (map.get terms.old which)).answer)
-        × (terms.new ≡ terms_after (stream_outcome (call_of_offset call.entry) which (map.get terms.old which)).updates terms.old)) }
-    ensures takes { OnErr result ((model.offset_meaning (call_of_offset call.entry)).takes_memory ≡ true) }
-    ensures only { OnErr result (IsSuccess (stream_outcome (call_of_offset call.entry) which (map.get terms.old which)).answer) }
-    ensures err { OnErr result (terms.new ≡ terms.old) }
+    ensures done { IsStreamDone (takes_memory (call_of_offset call.entry)) (stream_outcome (call_of_offset call.entry) which (map.get terms.old which)) terms.old terms.new result }
     ensures there { (k : ℕ) → IsSome (map.get terms.old k) → IsSome (map.get terms.new k) }
 {
     match call {

@@ -1,11 +1,12 @@
 //! Changes of a process's descriptors, with the holders of the opens that they name.
-ghost use Rattle.std.specs.Prelude.{◌≡◌, ◌^◌, ◌<◌, ◌≤◌, ℕ, IfOk, OnOk, OnErr, IsSome, bit_and};
+ghost use Rattle.std.specs.Prelude.{◌≡◌, ◌^◌, ◌<◌, ◌≤◌, ℕ, true, OnOk, IsSome, bit_and};
 ghost use Rattle.std.specs.FinMap as map;
+ghost use Rattle.abi_types.specs.Families.{call_of_change};
 ghost use Rattle.abi_types.specs.declared.reply.Answer.TheVariants as answer;
 ghost use Rattle.maps.specs.Maps.{number};
-ghost use Rattle.kernel_parts.specs.Changes.{change_outcome, opens_after, stat_put_at, table_after, HasReplaced, IsDup, IsMoved};
+ghost use Rattle.kernel_parts.specs.Changes.{change_outcome, opens_after, stat_put_at, table_after, HasReplaced, IsChangeDone, IsMoved};
+ghost use Rattle.kernel_model.specs.Calls.{takes_memory};
 ghost use Rattle.kernel_model.specs.Families.DescriptorCalls.{dup_of, replaced_by, with_flags};
-ghost use Rattle.kernel_model.specs.Outcome.{IsSuccess};
 ghost use Rattle.kernel_model.specs.Release.{count_in};
 
 use abi_base::MOST_DESCRIPTORS;
@@ -32,13 +33,8 @@ fn close(table: &mut FdTable, objects: &mut Objects, fd: u32)
 fn dup(table: &mut FdTable, objects: &mut Objects, fd: u32) -> Result<Reply, AllocError>
     requires covered { (o : ℕ) → count_in o table.old ≤ number (map.get objects.old.counts o) }
     requires few { (o : ℕ) → number (map.get objects.old.counts o) < 2 ^ 63 }
-    ensures reply { IfOk result (λ reply. (p : ℕ) → answer.Reply reply ≡ (dup_of p table.old (map.get table.old fd)).answer) }
-    ensures only { OnErr result ((p : ℕ) → IsSuccess (dup_of p table.old (map.get table.old fd)).answer) }
-    ensures table { OnOk result ((p : ℕ) → table.new ≡ table_after table.old (dup_of p table.old (map.get table.old fd)).updates) }
-    ensures kinds { objects.new.kinds ≡ objects.old.kinds }
+    ensures done { (p : ℕ) → IsChangeDone true (dup_of p table.old (map.get table.old fd)) table.old table.new objects.old objects.new result }
     ensures counts { OnOk result (IsMoved table.old table.new objects.old.counts objects.new.counts) }
-    ensures same_table { OnErr result (table.new ≡ table.old) }
-    ensures same_objects { OnErr result (objects.new ≡ objects.old) }
 {
     let Some(held) = table.get(fd) else {
         return Ok(refused(Errno::Badf));
@@ -134,14 +130,8 @@ pub fn change_table(
     requires covered { (o : ℕ) → count_in o table.old ≤ number (map.get objects.old.counts o) }
     requires few { (o : ℕ) → number (map.get objects.old.counts o) < 2 ^ 63 }
     requires replaced { HasReplaced table.old change }
-    ensures reply { IfOk result (λ reply. (p : ℕ) → answer.Reply reply ≡ (change_outcome p objects.old.kinds table.old change).answer) }
-    ensures table { OnOk result ((p : ℕ) → table.new ≡ table_after table.old (change_outcome p objects.old.kinds table.old change).updates) }
-    ensures kinds { OnOk result ((p : ℕ) → objects.new.kinds ≡ opens_after objects.old.kinds (change_outcome p objects.old.kinds table.old change).updates) }
+    ensures done { (p : ℕ) → IsChangeDone (takes_memory (call_of_change change)) (change_outcome p objects.old.kinds table.old change) table.old table.new objects.old objects.new result }
     ensures counts { OnOk result (IsMoved table.old table.new objects.old.counts objects.new.counts) }
-    ensures takes { OnErr result (IsDup change) }
-    ensures only { OnErr result ((p : ℕ) → IsSuccess (change_outcome p objects.old.kinds table.old change).answer) }
-    ensures same_table { OnErr result (table.new ≡ table.old) }
-    ensures same_objects { OnErr result (objects.new ≡ objects.old) }
 {
     match change {
         DescriptorChange::Close { fd } => {

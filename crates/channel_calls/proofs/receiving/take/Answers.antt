@@ -5,20 +5,21 @@ use Rattle.abi_types.specs.declared.descriptor.Descriptor.{Descriptor}
 use Rattle.channel_calls.specs.Calls.{carriers_in}
 use Rattle.kernel_model.specs.Channels.{Channel, Pulled, pull, reach}
 use Rattle.kernel_model.specs.Release.{count_carried, count_in}
-use Rattle.kernel_model.specs.Families.ChannelCalls.{install, truncated}
+use Rattle.kernel_model.specs.Families.ChannelCalls.{install, received, truncated}
 use Rattle.kernel_model.proofs.ChannelChanges.{by_less}
 use Rattle.kernel_model.proofs.Tests.{same_some}
 use Rattle.channel_calls.proofs.Takes.{carriers_drawn, coming_few, count_parts, first_part, kept_length, kept_part, kept_same, same_read}
 use Rattle.channel_calls.proofs.Installs.{installed_counts, installs, no_room}
-use Rattle.channel_calls.proofs.Received.{on_err, take_done, take_none, take_succeeds}
+use Rattle.channel_calls.proofs.Received.{take_done, take_none, take_succeeds}
+use Rattle.channel_calls.proofs.Results.{socket_lacked}
 use Rattle.channel_calls.proofs.receiving.take.Goals as goal
 use Rattle.channel_calls.proofs.receiving.take.Goals.{then-kept-carried, else-kept-carried}
 
 pub first_carried-carried-requires : goal.first_carried-carried-requires
 first_carried-carried-requires c = coming_few c.in-Some.channel.now (c.check.ensures c.in-Some.channel.now (sym c.in-Some.ensures))
 
-pub returns-then-len-kept-gt-MOST_DESCRIPTORS-clause-ok : goal.returns-then-len-kept-gt-MOST_DESCRIPTORS-clause-ok
-returns-then-len-kept-gt-MOST_DESCRIPTORS-clause-ok c channel there p =
+pub returns-then-len-kept-gt-MOST_DESCRIPTORS-clause-done : goal.returns-then-len-kept-gt-MOST_DESCRIPTORS-clause-done
+returns-then-len-kept-gt-MOST_DESCRIPTORS-clause-done c channel there p =
     let asked = c.args.asked.now in
     let same : c.in-Some.channel.now ≡ channel = same_some c.in-Some.channel.now channel (c.in-Some.ensures ∙ there) in
     let pulled = pull asked.length channel in
@@ -29,8 +30,8 @@ returns-then-len-kept-gt-MOST_DESCRIPTORS-clause-ok c channel there p =
     (omega (arith, kept, c.len.ensures.len, c.if-len-kept-gt-MOST_DESCRIPTORS.true)) in
     take_none p c.args.table.now asked.room c.args.id c.args.channels.now pulled (answer.Reply c.refused.result) none (ap answer.Reply c.refused.ensures)
 
-pub returns-in_err-out-clause-only : goal.returns-in_err-out-clause-only
-returns-in_err-out-clause-only c = on_err c.from_residual.result (λ channel there p.
+pub returns-in_err-out-clause-done : goal.returns-in_err-out-clause-done
+returns-in_err-out-clause-done c = λ channel there p.
     let asked = c.args.asked.now in
     let same : c.in-Some.channel.now ≡ channel = same_some c.in-Some.channel.now channel (c.in-Some.ensures ∙ there) in
     let pulled = pull asked.length channel in
@@ -39,10 +40,11 @@ returns-in_err-out-clause-only c = on_err c.from_residual.result (λ channel the
     let kept = kept_length asked.room c.min-kept.result c.first_carried-carried.result pulled.carried count c.min-kept.ensures in
     let some = installs (take asked.room pulled.carried) c.args.table.now c.len.ensures.below
     (omega (arith, kept, c.len.ensures.len, c.if-len-kept-gt-MOST_DESCRIPTORS.false)) in
-    take_succeeds p c.args.table.now asked.room c.args.id pulled some.0 some.1)
+    socket_lacked (received p c.args.table.now asked.room c.args.id pulled) c.args.table.now _ c.args.channels.now _ c.from_residual.result c.from_residual.ensures.0
+    (take_succeeds p c.args.table.now asked.room c.args.id pulled some.0 some.1) refl refl
 
-pub returns-in_err-install-clause-only : goal.returns-in_err-install-clause-only
-returns-in_err-install-clause-only c = on_err c.from_residual-in_err-install.result (λ channel there p.
+pub returns-in_err-install-clause-done : goal.returns-in_err-install-clause-done
+returns-in_err-install-clause-done c = λ channel there p.
     let asked = c.args.asked.now in
     let same : c.in-Some.channel.now ≡ channel = same_some c.in-Some.channel.now channel (c.in-Some.ensures ∙ there) in
     let pulled = pull asked.length channel in
@@ -51,14 +53,15 @@ returns-in_err-install-clause-only c = on_err c.from_residual-in_err-install.res
     let kept = kept_length asked.room c.min-kept.result c.first_carried-carried.result pulled.carried count c.min-kept.ensures in
     let some = installs (take asked.room pulled.carried) c.args.table.now c.len.ensures.below
     (omega (arith, kept, c.len.ensures.len, c.if-len-kept-gt-MOST_DESCRIPTORS.false)) in
-    take_succeeds p c.args.table.now asked.room c.args.id pulled some.0 some.1)
+    socket_lacked (received p c.args.table.now asked.room c.args.id pulled) c.args.table.now _ c.args.channels.now _ c.from_residual-in_err-install.result c.from_residual-in_err-install.ensures.0
+    (take_succeeds p c.args.table.now asked.room c.args.id pulled some.0 some.1) c.in_err-install.ensures.err refl
 
 flags_are : (room k n flags : ℕ) (ds : List Descriptor) → n ≡ length ds → k ≡ min n room → (k < n → flags ≡ 1) → (n ≤ k → flags ≡ 0) → flags ≡ truncated room ds
 flags_are room k n flags ds count least one none =
     by_less (λ b. flags ≡ cond b 1 0) room (length ds) (λ less. one (omega (arith, count, least, less))) (λ most. none (omega (arith, count, least, most)))
 
-pub returns-clause-ok : goal.returns-clause-ok
-returns-clause-ok c channel there p =
+pub returns-clause-done : goal.returns-clause-done
+returns-clause-done c channel there p =
     let asked = c.args.asked.now in
     let kept = c.min-kept.result in
     let many = c.first_carried-carried.result in

@@ -10,8 +10,8 @@ use Rattle.fd_calls.specs.AtOffset.{IsAtOffset}
 use Rattle.fd_calls.proofs.Written.{written_moves}
 use Rattle.fd_calls.proofs.transfers.fd_write.Goals as goal
 
-pub returns-in_ok-count-in-File-clause-ok : goal.returns-in_ok-count-in-File-clause-ok
-returns-in_ok-count-in-File-clause-ok c =
+pub returns-in_ok-count-in-File-clause-done : goal.returns-in_ok-count-in-File-clause-done
+returns-in_ok-count-in-File-clause-done c =
     let t = c.args.tree.now in
     let u = c.overwrite.new.tree in
     let node = c.in-File.node in

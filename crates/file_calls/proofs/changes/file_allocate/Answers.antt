@@ -5,14 +5,14 @@ use Rattle.kernel_model.specs.Families.FileChanges.{allocate, allocated}
 use Rattle.kernel_model.specs.Outcome.{IsSuccess}
 use Rattle.kernel_model.proofs.FileChanges.{allocated_reworks}
 use Rattle.kernel_model.proofs.Opened.{file_is_some}
-use Rattle.file_tree.proofs.Behind.{on_err}
 use Rattle.file_calls.specs.Done.{IsDone}
 use Rattle.file_calls.specs.Opens.{IsThere}
+use Rattle.file_calls.proofs.Done.{tree_lacked}
 use Rattle.file_calls.proofs.Reworked.{allocated_still, becomes_is, becomes_succeeds, nodes_stay, not_large, unless_done, unless_succeeds}
 use Rattle.file_calls.proofs.changes.file_allocate.Goals as goal
 
-pub returns-in_ok-set_least_size-in-File-clause-ok : goal.returns-in_ok-set_least_size-in-File-clause-ok
-returns-in_ok-set_least_size-in-File-clause-ok c =
+pub returns-in_ok-set_least_size-in-File-clause-done : goal.returns-in_ok-set_least_size-in-File-clause-done
+returns-in_ok-set_least_size-in-File-clause-done c =
     let t = c.args.tree.now in
     let u = c.set_least_size.new.tree in
     let node = c.in-File.node in
@@ -36,13 +36,14 @@ returns-in_ok-set_least_size-in-File-clause-nodes c =
     (allocated_reworks t node c.args.now size (subst (IsThere t) c.in-File.is c.requires))
     (allocated_still t node c.args.now size) c.in_ok-set_least_size-in-File.ensures.ok
 
-pub returns-in_err-set_least_size-in-File-clause-only : goal.returns-in_err-set_least_size-in-File-clause-only
-returns-in_err-set_least_size-in-File-clause-only c =
+pub returns-in_err-set_least_size-in-File-clause-done : goal.returns-in_err-set_least_size-in-File-clause-done
+returns-in_err-set_least_size-in-File-clause-done c =
     let t = c.args.tree.now in
     let node = c.in-File.node in
     let size = c.args.offset + c.args.length in
-    on_err c.from_residual.result
+    tree_lacked (allocate size c.args.now t (Some c.args.kind.now)) t c.set_least_size.new.tree c.from_residual.result c.from_residual.ensures.0
     (subst (λ (kind : OpenKind). IsSuccess (allocate size c.args.now t (Some kind)).answer) (sym c.in-File.is)
     (unless_succeeds _ _ _ (not_large size (omega arith))
     (becomes_succeeds t (allocated t node c.args.now size) node (allocated_still t node c.args.now size)
     (file_is_some (get t.nodes node) (subst (IsThere t) c.in-File.is c.requires)))))
+    c.in_err-set_least_size-in-File.ensures.err

@@ -5,14 +5,14 @@ use Rattle.kernel_model.specs.Families.FileChanges.{asked_size, put_open, put_st
 use Rattle.kernel_model.specs.Outcome.{IsSuccess}
 use Rattle.kernel_model.proofs.FileChanges.{put_stat_reworks, put_times_reworks}
 use Rattle.kernel_model.proofs.Opened.{file_is_some}
-use Rattle.file_tree.proofs.Behind.{on_err}
 use Rattle.file_calls.specs.Done.{IsDone}
 use Rattle.file_calls.specs.Opens.{IsThere}
+use Rattle.file_calls.proofs.Done.{tree_lacked}
 use Rattle.file_calls.proofs.Reworked.{becomes_is, becomes_succeeds, nodes_stay, not_large, put_stat_still, put_times_still, unless_done, unless_succeeds}
 use Rattle.file_calls.proofs.changes.file_stat_fput.Goals as goal
 
-pub returns-in_ok-put_stat-in-File-clause-ok : goal.returns-in_ok-put_stat-in-File-clause-ok
-returns-in_ok-put_stat-in-File-clause-ok c =
+pub returns-in_ok-put_stat-in-File-clause-done : goal.returns-in_ok-put_stat-in-File-clause-done
+returns-in_ok-put_stat-in-File-clause-done c =
     let t = c.args.tree.now in
     let u = c.put_stat.new.tree in
     let node = c.in-File.node in
@@ -24,8 +24,8 @@ returns-in_ok-put_stat-in-File-clause-ok c =
     (put_stat_reworks c.args.flags stat c.args.now t node (subst (IsThere t) c.in-File.is c.requires))
     (put_stat_still c.args.flags stat c.args.now t node) c.in_ok-put_stat-in-File.ensures.ok c.done.ensures))
 
-pub returns-else-has_size-clause-ok : goal.returns-else-has_size-clause-ok
-returns-else-has_size-clause-ok c =
+pub returns-else-has_size-clause-done : goal.returns-else-has_size-clause-done
+returns-else-has_size-clause-done c =
     let t = c.args.tree.now in
     let u = c.put_times.new.tree in
     let node = c.in-Directory.node in
@@ -53,13 +53,14 @@ returns-else-has_size-clause-nodes c =
     nodes_stay t (put_times c.args.flags stat c.args.now t node) c.put_times.new.tree node (put_times_reworks c.args.flags stat c.args.now t node)
     (put_times_still c.args.flags stat c.args.now t node) c.put_times.ensures
 
-pub returns-in_err-put_stat-in-File-clause-only : goal.returns-in_err-put_stat-in-File-clause-only
-returns-in_err-put_stat-in-File-clause-only c =
+pub returns-in_err-put_stat-in-File-clause-done : goal.returns-in_err-put_stat-in-File-clause-done
+returns-in_err-put_stat-in-File-clause-done c =
     let t = c.args.tree.now in
     let node = c.in-File.node in
     let stat = c.args.stat.now in
-    on_err c.from_residual.result
+    tree_lacked (put_open c.args.flags stat c.args.now t (Some c.args.kind.now)) t c.put_stat.new.tree c.from_residual.result c.from_residual.ensures.0
     (subst (λ (kind : OpenKind). IsSuccess (put_open c.args.flags stat c.args.now t (Some kind)).answer) (sym c.in-File.is)
     (unless_succeeds _ _ _ (not_large (asked_size c.args.flags stat) (omega (arith, c.asked_size.ensures)))
     (becomes_succeeds t (put_stat c.args.flags stat c.args.now t node) node (put_stat_still c.args.flags stat c.args.now t node)
     (file_is_some (get t.nodes node) (subst (IsThere t) c.in-File.is c.requires)))))
+    c.in_err-put_stat-in-File.ensures.err

@@ -36,8 +36,8 @@ some_bytes-requires c =
     let small : c.names_len.result < 9223372036854775808 = c.names_len.ensures.small in
     omega arith
 
-pub returns-then-position-names_len-clause-ok : goal.returns-then-position-names_len-clause-ok
-returns-then-position-names_len-clause-ok c =
+pub returns-then-position-names_len : goal.returns-then-position-names_len
+returns-then-position-names_len c =
     ap replies (c.content.ensures ∙ ap content c.new.ensures)
     ∙ none_from c.args.tree.now c.args.most c.args.position c.names_len.result (get c.args.tree.now.names c.args.dir) c.in-Some.entries c.in-Some.ensures
     c.names_len.ensures.names c.if-position-names_len.true

@@ -8,8 +8,8 @@ use Rattle.file_calls.specs.Opens.{IsThere}
 use Rattle.file_calls.proofs.Reworked.{is_written, nodes_stay, overwrites_is, overwritten_still}
 use Rattle.file_calls.proofs.writing.fd_pwrite.Goals as goal
 
-pub returns-clause-ok : goal.returns-clause-ok
-returns-clause-ok c =
+pub returns-clause-done : goal.returns-clause-done
+returns-clause-done c =
     let t = c.args.tree.now in
     let u = c.overwrite.new.tree in
     let node = c.in-File.node in

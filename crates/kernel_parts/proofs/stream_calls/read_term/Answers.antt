@@ -1,13 +1,19 @@
-use Rattle.std.proofs.Common.{sym, ap, ◌∙◌}
-use Rattle.std.specs.FinMap.{insert}
+use Rattle.std.proofs.Common.{ℕ, Option, refl, sym, ap, subst, ◌∙◌}
+use Rattle.std.specs.FinMap.{get, insert}
 use Rattle.abi_types.specs.declared.stream.Stream.{Stream}
 use Rattle.maps.specs.Maps.{insert_self}
+use Rattle.kernel_model.specs.Families.StreamCalls.{read_term}
+use Rattle.kernel_model.specs.Outcome.{IsSuccess}
 use Rattle.kernel_model.proofs.Valids.{some_inserted}
 use Rattle.kernel_parts.proofs.stream_calls.read_term.Goals as goal
 
-pub returns-in-Err-clause-err : goal.returns-in-Err-clause-err
-returns-in-Err-clause-err c =
-    ap (λ (stream : Stream). insert c.args.terms.now c.from-2.result stream) c.in-Err.ensures.err ∙ insert_self _ _ _ (sym c.get_mut-stream.ensures.value)
+pub returns-in-Err-clause-done : goal.returns-in-Err-clause-done
+returns-in-Err-clause-done c = (
+  refl,
+  subst (λ (k : ℕ). IsSuccess (read_term c.args.most c.args.which (get c.args.terms.now k)).answer) c.from-2.ensures
+      (subst (λ (stream : Option Stream). IsSuccess (read_term c.args.most c.args.which stream).answer) c.get_mut-stream.ensures.value refl),
+  ap (λ (stream : Stream). insert c.args.terms.now c.from-2.result stream) c.in-Err.ensures.err ∙ insert_self _ _ _ (sym c.get_mut-stream.ensures.value),
+)
 
 pub returns-in-Ok-clause-there : goal.returns-in-Ok-clause-there
 returns-in-Ok-clause-there c = λ k there. some_inserted c.args.terms.now c.from-2.result _ k there

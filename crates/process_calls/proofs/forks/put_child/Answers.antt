@@ -11,7 +11,7 @@ use Rattle.kernel_model.specs.OwnChanges.{may_bear, with_next_child}
 use Rattle.kernel_model.specs.Release.{count_in}
 use Rattle.kernel_model.specs.State.{ProcessState, Table}
 use Rattle.kernel_parts.proofs.Counts.{number-back}
-use Rattle.kernel_parts.proofs.Tests.{on_err}
+use Rattle.file_tree.proofs.Behind.{on_err}
 use Rattle.kernel_parts.specs.Changes.{IsMoved}
 use Rattle.maps.specs.Maps.{number, get-insert-other, get-insert-same, insert_self, remove-inserted}
 use Rattle.object_store.specs.Objects.{Held}

@@ -6,7 +6,7 @@ use Rattle.elf_image.specs.Image.{image}
 use Rattle.elf_image.specs.declared.elf.Elf.{Elf}
 use Rattle.elf_image.specs.declared.fault.ElfFault.{ElfFault}
 use Rattle.elf_image.specs.declared.fault.ElfFault.TheVariants.{NoMemory}
-use Rattle.kernel_parts.proofs.Tests.{on_err}
+use Rattle.file_tree.proofs.Behind.{on_err}
 use Rattle.process_calls.proofs.programs.check_program.Goals as goal
 use Rattle.process_calls.proofs.programs.check_program.Goals.{in-Ok, in-Err-NoMemory, in-Err}
 

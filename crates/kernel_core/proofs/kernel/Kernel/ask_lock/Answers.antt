@@ -23,12 +23,12 @@ call c =
 pub invariant_of-self : goal.invariant_of-self
 invariant_of-self d =
     let c = (goal.at.invariant_of-self d).After-look_again in
-    own_call_kept (call c) (Ok c.lock_poll-answer.result) c.self.inside.objects.counts (c.lock_poll-answer.ensures c.args.who.now.pid) tt c.self.invariant
+    own_call_kept (call c) (Ok c.lock_poll-answer.result) c.self.inside.objects.counts (c.lock_poll-answer.ensures c.args.who.now.pid) c.self.invariant
 
 pub returns-clause-done : goal.returns-clause-done
 returns-clause-done d =
     let c = (goal.at.returns-clause-done d).After-look_again in
-    own_call_done (call c) (Ok c.lock_poll-answer.result) (c.lock_poll-answer.ensures c.args.who.now.pid) tt tt c.self.invariant.valid
+    own_call_done (call c) (Ok c.lock_poll-answer.result) (c.lock_poll-answer.ensures c.args.who.now.pid) c.self.invariant.valid
 
 -- the thread is there before and after it
 pub returns-clause-there : goal.returns-clause-there

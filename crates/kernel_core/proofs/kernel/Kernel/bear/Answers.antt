@@ -3,7 +3,7 @@ use Rattle.kernel_model.specs.Families.ForkCalls.{fork_updates}
 use Rattle.kernel_model.specs.Release.{release}
 use Rattle.kernel_model.specs.State.{State, put_all}
 use Rattle.kernel_model.proofs.Valids.{release_valid, same_value}
-use Rattle.kernel_parts.proofs.Tests.{on_err}
+use Rattle.file_tree.proofs.Behind.{on_err}
 use Rattle.kernel_core.specs.contracts.kernel.Kernel.{the_view}
 use Rattle.kernel_core.proofs.Kept.{kept_again}
 use Rattle.kernel_core.proofs.ForkCalls.{child_seen, counts_room, fork_kept, fork_valid, may_put, opens_counted, opens_there, plan_unheld, put_is}

@@ -21,7 +21,6 @@ use Rattle.kernel_core.proofs.Released.{kept_released, released_to}
 use Rattle.kernel_core.proofs.Changes.{change_of_own, change_small, change_valid, puts_are}
 use Rattle.kernel_core.proofs.Channels.{counts_few, covered_alone, table_counts}
 use Rattle.kernel_core.proofs.Done.{done_at, lacked}
-use Rattle.kernel_core.proofs.Families.{change_takes_memory}
 use Rattle.kernel_core.proofs.Kept.{kept_again, small_set}
 use Rattle.kernel_core.proofs.Uses.{change_use}
 use Rattle.kernel_core.proofs.kernel.Kernel.change_descriptors.Goals as goal
@@ -46,19 +45,19 @@ unchanged c = record (the_view c.self.inside) {
 
 same_tables : (c : In_err-reply) → insert c.self.inside.tables c.from-p.result c.change_table.new.table ≡ c.self.inside.tables
 same_tables c =
-    ap (insert c.self.inside.tables c.from-p.result) c.in_err-reply.ensures.same_table ∙ insert_self c.self.inside.tables c.from-p.result c.get_mut.result.now (sym c.get_mut.ensures.value)
+    ap (insert c.self.inside.tables c.from-p.result) (c.in_err-reply.ensures.done c.args.pid).2 ∙ insert_self c.self.inside.tables c.from-p.result c.get_mut.result.now (sym c.get_mut.ensures.value)
 
 as_before : (c : In_err-reply) → unchanged c ≡ the_view c.self.inside
 as_before c = λ i. record (the_view c.self.inside) {
   tables = same_tables c i;
-  opens = (ap (λ (h : Held). h.kinds) c.in_err-reply.ensures.same_objects) i;
+  opens = (ap (λ (h : Held). h.kinds) (c.in_err-reply.ensures.done c.args.pid).3) i;
 }
 
 pub invariant_of-self : goal.invariant_of-self
 invariant_of-self d =
     let c = (goal.at.invariant_of-self d).In_err-reply in
     kept_again (the_view d.self.inside) d.self.inside.objects.counts d.self.invariant (unchanged c) d.change_table.new.objects.counts (as_before c)
-    (λ o. ap (λ (h : Held). number (get h.counts o)) d.in_err-reply.ensures.same_objects)
+    (λ o. ap (λ (h : Held). number (get h.counts o)) (d.in_err-reply.ensures.done d.args.pid).3)
 
 -- and the change would succeed
 pub returns-in_err-reply : goal.returns-in_err-reply
@@ -70,7 +69,7 @@ returns-in_err-reply d = λ table here.
     done_at S d.args.self.now d.self.view_is takes (λ X t. change_outcome d.args.pid X.opens t d.args.change) d.args.pid d.get_mut.result.now table (unchanged c)
     d.from_residual.result found here
     (lacked takes (change_outcome d.args.pid S.opens d.get_mut.result.now d.args.change) S (unchanged c) d.from_residual.result d.from_residual.ensures.0
-    (change_takes_memory d.args.change d.in_err-reply.ensures.takes) (d.in_err-reply.ensures.only d.args.pid) (as_before c))
+    (d.in_err-reply.ensures.done d.args.pid).0 (d.in_err-reply.ensures.done d.args.pid).1 (as_before c))
 
 -- ---- the change, and what ends after it
 
@@ -102,7 +101,7 @@ changed c = record (the_view c.self.inside) {
 
 set : (c : After-release) → insert c.self.inside.tables c.from-p.result c.change_table.new.table ≡ insert c.self.inside.tables c.args.pid (table_after c.get_mut.result.now (us c))
 set c =
-    ap (insert c.self.inside.tables c.from-p.result) (c.in_ok-reply.ensures.table c.args.pid)
+    ap (insert c.self.inside.tables c.from-p.result) (c.in_ok-reply.ensures.done c.args.pid).1
     ∙ ap (λ (p : ℕ). insert c.self.inside.tables p (table_after c.get_mut.result.now (us c))) (c.from-p.ensures ∙ c.pid.view_is)
 
 puts : (c : After-release) → put_all (us c) (the_view c.self.inside) ≡ changed c
@@ -113,7 +112,7 @@ puts c =
 released : (c : After-release) → fields c ≡ release (changed c)
 released c =
     let k = c.self.inside in
-    released_to (changed c) _ _ (λ i. state_by (set c i) k.processes k.statuses (c.in_ok-reply.ensures.kinds c.args.pid i) k.channels k.tree) c.release.ensures.state
+    released_to (changed c) _ _ (λ i. state_by (set c i) k.processes k.statuses ((c.in_ok-reply.ensures.done c.args.pid).2 i) k.channels k.tree) c.release.ensures.state
 
 pub release-requires-clause-counted : goal.release-requires-clause-counted
 release-requires-clause-counted c =
@@ -131,7 +130,7 @@ release-requires-clause-processes c = c.self.invariant.valid.nearly.owns
 -- each node is as much used after the change as before it, and so is used
 pub release-requires-clause-used : goal.release-requires-clause-used
 release-requires-clause-used c = λ n there.
-    ap (λ (m : FinMap nat_cmp OpenKind). is_used m c.self.inside.tree n) (c.in_ok-reply.ensures.kinds c.args.pid)
+    ap (λ (m : FinMap nat_cmp OpenKind). is_used m c.self.inside.tree n) (c.in_ok-reply.ensures.done c.args.pid).2
     ∙ change_use c.args.pid c.self.inside.objects.kinds c.get_mut.result.now c.self.inside.tree n c.args.change ∙ c.self.invariant.valid.kept n there
 
 pub release-requires-clause-going : goal.release-requires-clause-going
@@ -161,4 +160,4 @@ returns d = λ table here.
     let c = (goal.at.returns d).After-release in
     done_at (the_view d.self.inside) d.args.self.now d.self.view_is (takes_memory (call_of_change d.args.change))
     (λ X t. change_outcome d.args.pid X.opens t d.args.change) d.args.pid d.get_mut.result.now table (fields c) (Ok (answer.Reply d.in_ok-reply.reply)) (there c) here
-    (d.in_ok-reply.ensures.reply d.args.pid, released c ∙ sym (ap release (puts c)))
+    ((d.in_ok-reply.ensures.done d.args.pid).0, released c ∙ sym (ap release (puts c)))

@@ -19,9 +19,9 @@ call c =
 pub invariant_of-self : goal.invariant_of-self
 invariant_of-self d =
     let c = (goal.at.invariant_of-self d).After-look_again in
-    own_call_kept (call c) (Ok c.signal-answer.result) c.self.inside.objects.counts (c.signal-answer.ensures c.args.who.now.pid) tt c.self.invariant
+    own_call_kept (call c) (Ok c.signal-answer.result) c.self.inside.objects.counts (c.signal-answer.ensures c.args.who.now.pid) c.self.invariant
 
 pub returns : goal.returns
 returns d =
     let c = (goal.at.returns d).After-look_again in
-    own_call_done (call c) (Ok c.signal-answer.result) (c.signal-answer.ensures c.args.who.now.pid) tt tt c.self.invariant.valid
+    own_call_done (call c) (Ok c.signal-answer.result) (c.signal-answer.ensures c.args.who.now.pid) c.self.invariant.valid

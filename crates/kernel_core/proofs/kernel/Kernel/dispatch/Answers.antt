@@ -21,7 +21,7 @@ use Rattle.kernel_model.specs.Step.{outcome_by}
 use Rattle.kernel_model.specs.Valid.{IsValid}
 use Rattle.kernel_model.specs.View.{whole}
 use Rattle.kernel_model.proofs.Valids.{release_valid, same_value}
-use Rattle.kernel_parts.proofs.Tests.{on_err}
+use Rattle.file_tree.proofs.Behind.{on_err}
 use Rattle.poll_set.specs.Polls.{poll_outcome}
 use Rattle.poll_set.proofs.PollReads.{poll_by_stage}
 use Rattle.kernel_model.specs.Done.{IsDone}

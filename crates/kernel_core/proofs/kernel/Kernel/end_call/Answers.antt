@@ -19,7 +19,7 @@ pub release-requires-clause-going : goal.release-requires-clause-going
 release-requires-clause-going c =
     let there = subst (λ (S : State). (o : ℕ) × (get S.opens o ≡ Some c.args.kind.now)) (sym c.self.view_is) c.requires.there in
     end_going (the_view c.self.inside) there.0 c.args.kind.now (call_of_offset c.args.call) c.on_end.new.channels c.self.invariant.valid there.1
-    c.in_ok-answer.ensures.ok.1
+    c.in_ok-answer.ensures.done.1
 
 abbrev us : After-release → List Update
 us c = (end_outcome c.self.inside.channels c.args.kind.now (call_of_offset c.args.call)).updates
@@ -47,7 +47,7 @@ released : (c : After-release) → fields c ≡ release (left c)
 released c =
     let k = c.self.inside in
     released_to (left c) _ _
-    (λ i. state_by k.tables k.processes k.statuses (c.on_end.ensures.kinds i) (c.in_ok-answer.ensures.ok.1 i) k.tree) c.release.ensures.state
+    (λ i. state_by k.tables k.processes k.statuses (c.on_end.ensures.kinds i) (c.in_ok-answer.ensures.done.1 i) k.tree) c.release.ensures.state
 
 pub invariant_of-self-2 : goal.invariant_of-self-2
 invariant_of-self-2 d =
@@ -62,7 +62,7 @@ returns d =
     let c = (goal.at.returns d).After-release in
     let called = call_of_offset d.args.call in
     done_seen (the_view d.self.inside) d.args.self.now d.self.view_is (takes_memory called) (λ X. end_outcome X.chans d.args.kind.now called) (fields c)
-    (Ok d.in_ok-answer.answer) (d.in_ok-answer.ensures.ok.0, released c ∙ sym (ap release (put c)))
+    (Ok d.in_ok-answer.answer) (d.in_ok-answer.ensures.done.0, released c ∙ sym (ap release (put c)))
 
 pub returns-in_err-answer : goal.returns-in_err-answer
 returns-in_err-answer d =
@@ -71,5 +71,5 @@ returns-in_err-answer d =
     let U = record (the_view k) { opens = d.on_end.new.objects.kinds; chans = d.on_end.new.channels } in
     done_seen (the_view k) d.args.self.now d.self.view_is (takes_memory called) (λ X. end_outcome X.chans d.args.kind.now called) U d.from_residual.result
     (lacked (takes_memory called) (end_outcome k.channels d.args.kind.now called) (the_view k) U d.from_residual.result d.from_residual.ensures.0
-    d.in_err-answer.ensures.takes d.in_err-answer.ensures.only
-    (λ i. record (the_view k) { opens = d.on_end.ensures.kinds i; chans = d.in_err-answer.ensures.same_channels i }))
+    d.in_err-answer.ensures.done.0 d.in_err-answer.ensures.done.1
+    (λ i. record (the_view k) { opens = d.on_end.ensures.kinds i; chans = d.in_err-answer.ensures.done.2 i }))

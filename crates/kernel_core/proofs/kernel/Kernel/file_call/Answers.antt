@@ -38,7 +38,7 @@ invariant_of-self-2 d =
     record {
       valid = done_valid (call_of_file d.args.call) d.args.fd (d.self.inside.clock + d.args.constants.now.epoch) d.requires.on (the_view d.self.inside)
           d.in-Some.field-0-0.id d.in-Some.kind (found c).opened d.self.invariant.valid d.on_open.new.tree
-          d.in_ok-reply.ensures.ok.1 d.in_ok-reply.ensures.nodes;
+          d.in_ok-reply.ensures.done.1 d.in_ok-reply.ensures.nodes;
       counted = d.self.invariant.counted;
       few = d.self.invariant.few;
       small = d.self.invariant.small;
@@ -56,9 +56,9 @@ returns d = λ table here.
     (with_tree S d.on_open.new.tree) (Ok given) f.there here
     (answered_as _ (file_outcome constants S f.table d.args.fd called) S (with_tree S d.on_open.new.tree) given
     (file_comes constants S f.table d.args.fd called d.in-Some.kind (found_kind S d.args.pid d.args.fd d.in-Some.field-0-0 d.in-Some.kind f f.table f.there)) (
-      d.in_ok-reply.ensures.ok.0,
+      d.in_ok-reply.ensures.done.0,
       done_released called d.args.fd (S.clock + constants.epoch) d.requires.on S d.in-Some.field-0-0.id d.in-Some.kind f.opened
-          d.self.invariant.valid d.on_open.new.tree d.in_ok-reply.ensures.ok.1 d.in_ok-reply.ensures.nodes,
+          d.self.invariant.valid d.on_open.new.tree d.in_ok-reply.ensures.done.1 d.in_ok-reply.ensures.nodes,
     ))
 
 pub returns-in_err-reply : goal.returns-in_err-reply
@@ -73,5 +73,5 @@ returns-in_err-reply d = λ table here.
     done_at S d.args.self.now d.self.view_is (takes_memory called) (λ X t. file_outcome constants X t d.args.fd called) d.args.pid f.table table U r f.there here
     (done_as (takes_memory called) o (file_outcome constants S f.table d.args.fd called) S U r
     (file_comes constants S f.table d.args.fd called d.in-Some.kind (found_kind S d.args.pid d.args.fd d.in-Some.field-0-0 d.in-Some.kind f f.table f.there))
-    (lacked (takes_memory called) o S U r d.from_residual.ensures.0 (file_takes_memory called d.args.fd d.requires.on d.in_err-reply.ensures.takes)
-    d.in_err-reply.ensures.only (ap (with_tree S) d.in_err-reply.ensures.err)))
+    (lacked (takes_memory called) o S U r d.from_residual.ensures.0 (file_takes_memory called d.args.fd d.requires.on d.in_err-reply.ensures.done.0)
+    d.in_err-reply.ensures.done.1 (ap (with_tree S) d.in_err-reply.ensures.done.2)))

@@ -20,7 +20,7 @@ call c =
 pub invariant_of-self : goal.invariant_of-self
 invariant_of-self d =
     let c = (goal.at.invariant_of-self d).After-look_again in
-    own_call_kept (call c) (Ok c.unlock-answer.result) c.self.inside.objects.counts (c.unlock-answer.ensures c.args.who.now.pid) tt c.self.invariant
+    own_call_kept (call c) (Ok c.unlock-answer.result) c.self.inside.objects.counts (c.unlock-answer.ensures c.args.who.now.pid) c.self.invariant
 
 pub returns : goal.returns
 returns d =
@@ -28,4 +28,4 @@ returns d =
     subst (λ t. IsDone true (unlock_in c.args.who.now.pid t c.args.lock c.args.word (get c.args.self.now.processes c.args.who.now.pid)) c.args.self.now
     (record (the_view c.self.inside) { processes = insert c.self.inside.processes c.from.result c.unlock-answer.new.self; chans = c.look_again.new.channels })
     (Ok c.unlock-answer.result)) (ap (λ (w : Who). w.tid) c.who.view_is)
-    (own_call_done (call c) (Ok c.unlock-answer.result) (c.unlock-answer.ensures c.args.who.now.pid) tt tt c.self.invariant.valid)
+    (own_call_done (call c) (Ok c.unlock-answer.result) (c.unlock-answer.ensures c.args.who.now.pid) c.self.invariant.valid)

@@ -1,5 +1,4 @@
 use Rattle.std.proofs.Common.{◌≡◌, ◌+◌, Option, Some, Result, Ok, is_some, sym, ap, subst, ◌∙◌}
-use Rattle.std.proofs.lemmas.Result.{IfOk-weaker, on_err_weaker}
 use Rattle.std.specs.FinMap.{get}
 use Rattle.std.specs.Option.{IfSome}
 use Rattle.std.specs.declared.alloc.AllocError.{AllocError}
@@ -21,9 +20,9 @@ use Rattle.kernel_parts.specs.StreamCalls.{stream_outcome}
 use Rattle.kernel_model.specs.Done.{IsAnswered, IsDone}
 use Rattle.kernel_core.specs.OffsetCalls.{offset_outcome}
 use Rattle.kernel_core.specs.contracts.kernel.Kernel.{the_view}
-use Rattle.kernel_core.proofs.Done.{done_as, done_at, done_of, done_seen, lacked, replied_seen}
+use Rattle.kernel_core.proofs.Done.{done_as, done_at, done_seen, lacked, replied_seen}
 use Rattle.kernel_core.proofs.FileCalls.{there_behind, with_tree}
-use Rattle.kernel_core.proofs.OffsetCalls.{IsNoStream, absent_comes, end_outcome_is, offset_done, offset_outcome_is, offset_same, offset_takes_memory, offset_valid, stream_left, stream_outcome_is, with_terms}
+use Rattle.kernel_core.proofs.OffsetCalls.{IsNoStream, absent_comes, end_outcome_is, offset_done, offset_outcome_is, offset_same, offset_valid, stream_done, stream_outcome_is, with_terms}
 use Rattle.kernel_core.proofs.Opens.{IsFound, open_absent, open_found}
 use Rattle.kernel_core.proofs.Streams.{written_valid}
 use Rattle.kernel_core.proofs.kernel.Kernel.offset_call.Goals as goal
@@ -77,11 +76,7 @@ returns-in-Terminal d = λ table here.
     let r = d.on_stream.result in
     at_found c table U r o here
     (sym (stream_outcome_is d.args.constants.now S f.table d.args.fd called d.in-Some.descriptor t.which t.flags d.requires.on f.named (f.opened ∙ ap Some t.is)))
-    (done_of (takes_memory called) o S U r
-    (IfOk-weaker r _ _ (λ given done. (done.0, stream_left called S t.which d.on_stream.new.terms d.self.invariant.valid d.on_stream.ensures.there done.1))
-    d.on_stream.ensures.ok)
-    (on_err_weaker r (offset_takes_memory called d.args.fd d.requires.on) d.on_stream.ensures.takes) d.on_stream.ensures.only
-    (on_err_weaker r (ap (with_terms S)) d.on_stream.ensures.err))
+    (stream_done called S t.which d.on_stream.new.terms r d.self.invariant.valid d.on_stream.ensures.there d.on_stream.ensures.done)
 
 -- ---- an end of channels
 
@@ -121,7 +116,7 @@ set-requires c = record {
   there = ap is_some (found (goal.at.set-requires c).In-Some).opened;
   same_node = subst (λ (o : Option OpenKind). IfSome o (IsOfSameNode c.at_offset.new.kind)) (sym (found (goal.at.set-requires c).In-Some).opened)
       (offset_same (c.self.inside.clock + c.args.constants.now.epoch) c.self.inside.tree c.at_offset.new.tree (call_of_offset c.args.call) c.in-Some.kind
-      c.at_offset.new.kind c.in_ok-reply.reply c.in_ok-reply.ensures.ok);
+      c.at_offset.new.kind c.in_ok-reply.reply c.in_ok-reply.ensures.done);
 }
 
 pub invariant_of-self-2 : goal.invariant_of-self-2
@@ -130,7 +125,7 @@ invariant_of-self-2 c = record {
       (sym c.set.ensures)
       (offset_valid (call_of_offset c.args.call) c.args.fd (c.self.inside.clock + c.args.constants.now.epoch) c.requires.on (the_view c.self.inside)
       c.in-Some.descriptor.id c.in-Some.kind c.at_offset.new.kind (found (goal.at.invariant_of-self-2 c).In-Some).opened (c.in_default-kind.not-Terminal, c.in_default-kind-2.not-End)
-      c.self.invariant.valid c.at_offset.new.tree c.in_ok-reply.reply c.in_ok-reply.ensures.ok c.in_ok-reply.ensures.nodes);
+      c.self.invariant.valid c.at_offset.new.tree c.in_ok-reply.reply c.in_ok-reply.ensures.done c.in_ok-reply.ensures.nodes);
   counted = λ o. ap (λ (h : Held). number (get h.counts o)) c.set.ensures ∙ c.self.invariant.counted o;
   few = c.self.invariant.few;
   small = c.self.invariant.small;
@@ -153,7 +148,7 @@ returns d = λ table here.
     (sym (offset_outcome_is d.args.constants.now S f.table d.args.fd called d.in-Some.descriptor d.in-Some.kind d.requires.on f.named f.opened unlike))
     (subst (λ (h : Held). IsAnswered o S (record S { opens = h.kinds; nodes = t.nodes; names = t.names }) given) (sym d.set.ensures)
     (offset_done called d.args.fd now d.requires.on S id d.in-Some.kind d.at_offset.new.kind f.opened unlike d.self.invariant.valid t d.in_ok-reply.reply
-    d.in_ok-reply.ensures.ok d.in_ok-reply.ensures.nodes))
+    d.in_ok-reply.ensures.done d.in_ok-reply.ensures.nodes))
 
 pub returns-in_err-reply : goal.returns-in_err-reply
 returns-in_err-reply d = λ table here.
@@ -168,5 +163,5 @@ returns-in_err-reply d = λ table here.
     let r = d.from_residual.result in
     at_found c table U r o here
     (sym (offset_outcome_is d.args.constants.now S f.table d.args.fd called d.in-Some.descriptor d.in-Some.kind d.requires.on f.named f.opened unlike))
-    (lacked (takes_memory called) o S U r d.from_residual.ensures.0 (offset_takes_memory called d.args.fd d.requires.on d.in_err-reply.ensures.takes)
-    d.in_err-reply.ensures.only (ap (with_tree S) d.in_err-reply.ensures.same_tree))
+    (lacked (takes_memory called) o S U r d.from_residual.ensures.0 d.in_err-reply.ensures.done.0
+    d.in_err-reply.ensures.done.1 (ap (with_tree S) d.in_err-reply.ensures.done.2))

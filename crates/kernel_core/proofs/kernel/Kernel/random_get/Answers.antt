@@ -16,9 +16,9 @@ call c =
 pub invariant_of-self : goal.invariant_of-self
 invariant_of-self d =
     let c = (goal.at.invariant_of-self d).After-draw in
-    own_call_kept (call c) c.draw.result c.self.inside.objects.counts c.draw.ensures.ok c.draw.ensures.err c.self.invariant
+    own_call_kept (call c) c.draw.result c.self.inside.objects.counts c.draw.ensures c.self.invariant
 
 pub returns : goal.returns
 returns d =
     let c = (goal.at.returns d).After-draw in
-    own_call_done (call c) c.draw.result c.draw.ensures.ok c.draw.ensures.only c.draw.ensures.err c.self.invariant.valid
+    own_call_done (call c) c.draw.result c.draw.ensures c.self.invariant.valid

@@ -85,8 +85,8 @@ as_before : (c : In_err-answer) → unchanged c ≡ the_view c.self.inside
 as_before c =
     let e = c.in_err-answer.ensures in
     let tables : insert c.self.inside.tables c.from.result c.on_socket.new.table ≡ c.self.inside.tables =
-    ap (insert c.self.inside.tables c.from.result) e.same_table ∙ insert_self c.self.inside.tables c.from.result c.get_mut-table.result.now (sym c.get_mut-table.ensures.value) in
-    λ i. record (the_view c.self.inside) { tables = tables i; opens = (e.same_objects i).kinds; chans = e.same_channels i }
+    ap (insert c.self.inside.tables c.from.result) (e.done c.args.pid).2 ∙ insert_self c.self.inside.tables c.from.result c.get_mut-table.result.now (sym c.get_mut-table.ensures.value) in
+    λ i. record (the_view c.self.inside) { tables = tables i; opens = (e.same_objects i).kinds; chans = (e.done c.args.pid).3 i }
 
 pub invariant_of-self : goal.invariant_of-self
 invariant_of-self d =
@@ -100,7 +100,7 @@ returns-in_err-answer d = λ table here.
     let called = call_of_socket d.args.call in
     at_found (goal.at.returns-in_err-answer d).After-get_mut-table table (unchanged c) d.from_residual.result (found (goal.at.returns-in_err-answer d).In-Some) here
     (lacked (takes_memory called) (socket_outcome d.args.pid d.get_mut-table.result.now d.self.inside.channels d.in-Some.kind called) (the_view d.self.inside)
-    (unchanged c) d.from_residual.result d.from_residual.ensures.0 d.in_err-answer.ensures.takes (d.in_err-answer.ensures.only d.args.pid) (as_before c))
+    (unchanged c) d.from_residual.result d.from_residual.ensures.0 (d.in_err-answer.ensures.done d.args.pid).0 (d.in_err-answer.ensures.done d.args.pid).1 (as_before c))
 
 -- ---- the call, and what ends after it
 
@@ -119,7 +119,7 @@ release-requires-clause-going d =
     let c = (goal.at.release-requires-clause-going d).After-get_mut-table in
     socket_going (the_view d.self.inside) d.args.pid d.get_mut-table.result.now d.in-Some.kind d.args.call (there c)
     (opened c (found (goal.at.release-requires-clause-going d).In-Some)) d.on_socket.new.channels d.self.invariant.valid
-    (d.in_ok-answer.ensures.ok d.args.pid).2
+    (d.in_ok-answer.ensures.done d.args.pid).2
 
 -- the fields as they are in the end
 abbrev fields : After-release → State
@@ -145,7 +145,7 @@ left c =
 released : (c : After-release) → c.from.result ≡ c.args.pid → fields c ≡ release (left c)
 released c same =
     let k = c.self.inside in
-    let done = c.in_ok-answer.ensures.ok c.args.pid in
+    let done = c.in_ok-answer.ensures.done c.args.pid in
     let tables : insert k.tables c.from.result c.on_socket.new.table ≡ (left c).tables =
     ap (insert k.tables c.from.result) done.1
     ∙ ap (λ q. insert k.tables q (table_after (socket_outcome c.args.pid c.get_mut-table.result.now k.channels c.in-Some.kind (call_of_socket c.args.call)).updates c.get_mut-table.result.now)) same in
@@ -174,4 +174,4 @@ returns d = λ table here.
     let p = d.args.pid in
     let put = socket_put S p d.get_mut-table.result.now d.in-Some.kind d.args.call (there g) (opened g have) in
     at_found g table (fields c) (Ok d.in_ok-answer.answer) have here
-    ((d.in_ok-answer.ensures.ok p).0, released c (d.from.ensures ∙ d.pid.view_is) ∙ sym (ap release put))
+    ((d.in_ok-answer.ensures.done p).0, released c (d.from.ensures ∙ d.pid.view_is) ∙ sym (ap release put))

@@ -1,10 +1,8 @@
-use Rattle.std.proofs.Common.{Some, ap, refl, subst, ◌∙◌}
-use Rattle.std.proofs.lemmas.Result.{IfOk-weaker, on_err_weaker}
-use Rattle.std.specs.Prelude.{true, IfOk}
+use Rattle.std.proofs.Common.{ap, refl, subst, ◌∙◌}
+use Rattle.std.specs.Prelude.{true}
 use Rattle.std.specs.FinMap.{get, insert}
 use Rattle.abi_types.specs.declared.who.Who.{Who}
 use Rattle.kernel_model.specs.Families.ProcessCalls.{made_in}
-use Rattle.kernel_parts.specs.OwnCalls.{IsOwnStep}
 use Rattle.kernel_model.specs.Done.{IsDone}
 use Rattle.kernel_core.specs.contracts.kernel.Kernel.{the_view}
 use Rattle.kernel_core.proofs.OwnCalls.{created_only, own_call, own_call_done, own_call_kept, IsOwnCall}
@@ -19,14 +17,10 @@ call c =
     (c.from.ensures ∙ ap (λ (w : Who). w.pid) c.who.view_is) c.self.view_is c.get_mut-own.ensures.value refl
     (created_only c.args.who.now.pid c.who.inside.0.1.0 c.get_mut-own.result.now)
 
-made : (c : After-make_thread) → IfOk c.make_thread.result (λ given. IsOwnStep c.get_mut-own.result.now c.make_thread.new.self given
-    (made_in c.args.who.now.pid c.who.inside.0.1.0 (Some c.get_mut-own.result.now)))
-made c = IfOk-weaker c.make_thread.result _ _ (λ given done. done c.args.who.now.pid) c.make_thread.ensures.ok
-
 pub invariant_of-self : goal.invariant_of-self
 invariant_of-self d =
     let c = (goal.at.invariant_of-self d).After-make_thread in
-    own_call_kept (call c) c.make_thread.result c.self.inside.objects.counts (made c) c.make_thread.ensures.err c.self.invariant
+    own_call_kept (call c) c.make_thread.result c.self.inside.objects.counts (c.make_thread.ensures c.args.who.now.pid) c.self.invariant
 
 pub returns : goal.returns
 returns d =
@@ -34,5 +28,4 @@ returns d =
     subst (λ t. IsDone true (made_in c.args.who.now.pid t (get c.args.self.now.processes c.args.who.now.pid)) c.args.self.now
     (record (the_view c.self.inside) { processes = insert c.self.inside.processes c.from.result c.make_thread.new.self }) c.make_thread.result)
     (ap (λ (w : Who). w.tid) c.who.view_is)
-    (own_call_done (call c) c.make_thread.result (made c) (on_err_weaker c.make_thread.result (λ succeeds. succeeds c.args.who.now.pid) c.make_thread.ensures.only)
-    c.make_thread.ensures.err c.self.invariant.valid)
+    (own_call_done (call c) c.make_thread.result (c.make_thread.ensures c.args.who.now.pid) c.self.invariant.valid)

@@ -1,18 +1,18 @@
-use Rattle.std.proofs.Common.{◌≡◌, ℕ, ◌+◌, refl, sym, ap, subst, ◌∙◌}
+use Rattle.std.proofs.Common.{◌≡◌, ℕ, ◌+◌, Some, refl, sym, ap, subst, ◌∙◌}
 use Rattle.clock_random.specs.Random.{random_bytes, words_of}
 use Rattle.abi_types.specs.declared.reply.Answer.TheVariants as answer
-use Rattle.kernel_model.specs.Families.ClockCalls.{random_reply}
+use Rattle.kernel_model.specs.Families.ClockCalls.{drawn_by, random_reply}
 use Rattle.kernel_model.specs.Outcome.{Outcome, IsSuccess}
 use Rattle.kernel_model.specs.OwnChanges.{drawn_more}
 use Rattle.kernel_model.specs.State.{ProcessState}
 use Rattle.kernel_parts.specs.OwnCalls.{own_after}
 use Rattle.kernel_parts.specs.contracts.process.ProcessState.{the_view}
+use Rattle.kernel_parts.proofs.Done.{own_lacked}
 use Rattle.kernel_parts.proofs.OwnCalls.{drawn_with, not_drawn, words_are}
-use Rattle.kernel_parts.proofs.Tests.{on_err}
 use Rattle.kernel_parts.proofs.process.ProcessState.draw.Goals as goal
 
-pub returns-in_default-clause-ok : goal.returns-in_default-clause-ok
-returns-in_default-clause-ok c =
+pub returns-in_default : goal.returns-in_default
+returns-in_default c =
     let own = c.args.self.now in
     let words : c.div_ceil.result ≡ words_of c.args.length = c.div_ceil.ensures ∙ words_are c.args.length in
     let none = not_drawn c.args.constants.now c.args.pid c.args.length c.div_ceil.result own words c.in_default.ensures in (
@@ -20,8 +20,8 @@ returns-in_default-clause-ok c =
       sym (ap (λ (o : Outcome). own_after o.updates own) none),
     )
 
-pub returns-clause-ok : goal.returns-clause-ok
-returns-clause-ok c =
+pub returns : goal.returns
+returns c =
     let own = c.args.self.now in
     let V : ProcessState = the_view c.self.inside in
     let key = c.args.constants.now.key in
@@ -37,8 +37,9 @@ returns-clause-ok c =
           ∙ sym (ap (λ (o : Outcome). own_after o.updates own) drawn.0),
     )
 
-pub returns-in_err-bytes-clause-only : goal.returns-in_err-bytes-clause-only
-returns-in_err-bytes-clause-only c =
+pub returns-in_err-bytes : goal.returns-in_err-bytes
+returns-in_err-bytes c =
     let words : c.div_ceil.result ≡ words_of c.args.length = c.div_ceil.ensures ∙ words_are c.args.length in
-    on_err c.from_residual.result (subst (λ (o : Outcome). IsSuccess o.answer)
-    (sym (drawn_with c.args.constants.now c.args.pid c.args.length c.div_ceil.result c.in-Some.after c.args.self.now words c.in-Some.ensures).0) refl)
+    own_lacked (drawn_by c.args.constants.now c.args.pid (Some c.args.self.now) c.args.length) c.args.self.now _ c.from_residual.result c.from_residual.ensures.0
+    (subst (λ (o : Outcome). IsSuccess o.answer) (sym (drawn_with c.args.constants.now c.args.pid c.args.length c.div_ceil.result c.in-Some.after c.args.self.now words c.in-Some.ensures).0) refl)
+    refl

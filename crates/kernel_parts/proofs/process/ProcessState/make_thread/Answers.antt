@@ -1,7 +1,8 @@
-use Rattle.std.proofs.Common.{◌≡◌, ℕ, refl, sym, ap, subst, ◌∙◌}
+use Rattle.std.proofs.Common.{◌≡◌, ℕ, Some, refl, sym, ap, subst, ◌∙◌}
 use Rattle.std.specs.FinMap.{insert}
 use Rattle.abi_types.specs.declared.reply.Answer.TheVariants as answer
 use Rattle.abi_types.specs.declared.thread.Thread.TheVariants.{Runnable}
+use Rattle.kernel_model.specs.Families.ProcessCalls.{made_in}
 use Rattle.kernel_model.specs.Outcome.{Outcome, IsSuccess}
 use Rattle.kernel_model.specs.OwnChanges.{next_thread, with_next_thread}
 use Rattle.kernel_model.specs.Reply.{success}
@@ -10,20 +11,20 @@ use Rattle.guest_locks.specs.Queues.{AreFew}
 use Rattle.kernel_parts.specs.OwnCalls.{new_thread, own_after}
 use Rattle.kernel_parts.specs.contracts.process.ProcessState.{the_view}
 use Rattle.kernel_parts.proofs.FewThreads.{few_new}
+use Rattle.kernel_parts.proofs.Done.{own_lacked}
 use Rattle.kernel_parts.proofs.OwnCalls.{can_be_given, made_with, not_made}
-use Rattle.kernel_parts.proofs.Tests.{on_err}
 use Rattle.kernel_parts.proofs.process.ProcessState.make_thread.Goals as goal
 
-pub returns-in_default-clause-ok : goal.returns-in_default-clause-ok
-returns-in_default-clause-ok c = λ p.
+pub returns-in_default : goal.returns-in_default
+returns-in_default c = λ p.
     let own = c.args.self.now in
     let none = not_made p c.args.tid own c.in_default.ensures in (
       ap answer.Reply c.refused.ensures ∙ sym (ap (λ (o : Outcome). o.answer) none),
       sym (ap (λ (o : Outcome). own_after o.updates own) none),
     )
 
-pub returns-clause-ok : goal.returns-clause-ok
-returns-clause-ok c = λ p.
+pub returns : goal.returns
+returns c = λ p.
     let own = c.args.self.now in
     let V : ProcessState = the_view c.self.inside in
     let made = made_with p c.args.tid c.in-Some.number own c.in-Some.ensures in
@@ -35,9 +36,11 @@ returns-clause-ok c = λ p.
           ∙ sym (ap (λ (o : Outcome). own_after o.updates own) made.0),
     )
 
-pub returns-in_err-insert-clause-only : goal.returns-in_err-insert-clause-only
-returns-in_err-insert-clause-only c = on_err c.from_residual.result (λ p.
-    subst (λ (o : Outcome). IsSuccess o.answer) (sym (made_with p c.args.tid c.in-Some.number c.args.self.now c.in-Some.ensures).0) refl)
+pub returns-in_err-insert : goal.returns-in_err-insert
+returns-in_err-insert c = λ p.
+    own_lacked (made_in p c.args.tid (Some c.args.self.now)) c.args.self.now _ c.from_residual.result c.from_residual.ensures.0
+    (subst (λ (o : Outcome). IsSuccess o.answer) (sym (made_with p c.args.tid c.in-Some.number c.args.self.now c.in-Some.ensures).0) refl)
+    ((λ i. record (the_view c.self.inside) { threads = c.in_err-insert.ensures.err i }) ∙ c.self.view_is)
 
 pub invariant_of-self-2 : goal.invariant_of-self-2
 invariant_of-self-2 c =
