@@ -7,6 +7,7 @@ use Rattle.abi_types.specs.declared.descriptor.Descriptor.{Descriptor}
 use Rattle.maps.specs.Maps.{number, weight, get-insert-same, get-insert-other, get-remove-same, get-remove-other, total-insert, total-insert_new, total-remove, total_at_least}
 use Rattle.kernel_model.specs.Release.{names_open, count_in}
 use Rattle.kernel_model.specs.State.{Table}
+use Rattle.channel_calls.proofs.Holders.{number-let_go}
 use Rattle.kernel_parts.specs.Changes.{IsMoved}
 
 -- a descriptor that leaves a table names one open less there
@@ -20,22 +21,6 @@ counted_at_own table n d there =
     let one : names_open d.id d ≡ 1 = ap (λ b. cond b 1 0) (eq-eqb d.id d.id refl) in
     let least = total_at_least (names_open d.id) table n d there in
     omega (arith, one, least)
-
--- one holder less at one open
-pub number-let_go : (counts : FinMap nat_cmp ℕ) (d : Descriptor) (o : ℕ) → 0 < number (get counts d.id)
-    → number (get (insert counts d.id (number (get counts d.id) - 1)) o) + names_open o d ≡ number (get counts o)
-number-let_go counts d o some =
-    elim (eqb_tells d.id o) [
-      | inl h ↦
-          let own = ap number (ap (get (insert counts d.id (number (get counts d.id) - 1))) (sym h.1) ∙ get-insert-same counts d.id _) in
-          let one : names_open o d ≡ 1 = ap (λ b. cond b 1 0) h.0 in
-          let same : number (get counts d.id) ≡ number (get counts o) = ap (λ x. number (get counts x)) h.1 in
-          omega (arith, own, one, same)
-      | inr h ↦
-          let other = ap number (get-insert-other counts d.id (number (get counts d.id) - 1) o (λ e. h.1 (sym e))) in
-          let none : names_open o d ≡ 0 = ap (λ b. cond b 1 0) h.0 in
-          omega (arith, other, none)
-    ]
 
 -- ---- holders that change with a table
 

@@ -4,7 +4,8 @@ use Rattle.maps.specs.Maps.{number, total-empty}
 use Rattle.kernel_model.specs.Release.{names_open, count_in}
 use Rattle.object_store.specs.Objects.{Held}
 use Rattle.kernel_model.specs.State.{Table}
-use Rattle.kernel_parts.proofs.Counts.{count_in-remove, counted_at_own, number-let_go}
+use Rattle.channel_calls.proofs.Holders.{number-let_go}
+use Rattle.kernel_parts.proofs.Counts.{count_in-remove, counted_at_own}
 use Rattle.kernel_parts.proofs.table.let_go_all.Goals as goal
 
 pub let_go-requires : goal.let_go-requires
