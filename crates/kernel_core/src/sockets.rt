@@ -11,20 +11,9 @@ ghost use Rattle.kernel_parts.specs.Waiting.{fd_of_socket};
 use crate::kernel::Kernel;
 use abi_types::{Answer, Errno, Pid, SocketCall};
 use channel_calls::on_socket;
-use kernel_parts::{open_of, release};
+use kernel_parts::{open_of, release, socket_fd};
 use right_rules::refused;
 use std::alloc::AllocError;
-
-// The descriptor of the socket.
-fn socket_fd(call: SocketCall<'_>) -> u32
-    ensures { result ≡ fd_of_socket call.entry }
-{
-    match call {
-        SocketCall::SockRecv { fd, .. }
-        | SocketCall::SockSend { fd, .. }
-        | SocketCall::SockShutdown { fd, .. } => fd,
-    }
-}
 
 impl Kernel {
     // Does a call on a socket. What nothing holds any more ends. `Err` changes nothing.

@@ -18,7 +18,7 @@ pub use table::{hold_all, let_go_all};
 pub use table_change::change_table;
 pub use terminal::Terminal;
 pub use told::look_again;
-pub use waiting::{deadline_of, goes_on};
+pub use waiting::{deadline_of, goes_on, socket_fd};
 
 mod activity;
 mod clocks;

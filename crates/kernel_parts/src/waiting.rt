@@ -55,8 +55,8 @@ fn offset_waits(around: Surroundings<'_>, table: &FdTable, call: OffsetCall<'_>)
     }
 }
 
-// The descriptor of a call on a socket.
-pub(crate) fn socket_fd(call: SocketCall<'_>) -> u32
+/// The descriptor of a call on a socket.
+pub fn socket_fd(call: SocketCall<'_>) -> u32
     ensures { result ≡ fd_of_socket call.entry }
 {
     match call {
