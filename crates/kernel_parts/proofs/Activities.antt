@@ -5,12 +5,15 @@
 --     goes_on, are_all      what the values of a map do, one after another
 use Rattle.std.proofs.Common.{◌≡◌, ◌⊎◌, inl, inr, ℕ, ◌+◌, ◌≤◌, true, false, Option, Some, None, IsSome, is_some, refl, sym, ap, subst, ◌∙◌, arith}
 use Rattle.std.proofs.lemmas.Bool.{ltb-true, ltb-false}
-use Rattle.std.specs.Prelude.{⊤, nat_lt, if◌then◌else◌}
+use Rattle.std.proofs.lemmas.Bool.Decides.{leb_tells}
+use Rattle.std.proofs.Math.Nat.{min-eq_left, min_comm}
+use Rattle.std.specs.Prelude.{⊤, nat_lt}
 use Rattle.std.specs.Ordering.{nat_cmp}
 use Rattle.std.specs.FinMap.{FinMap, get}
 use Rattle.maps.specs.Maps.{least_key, least_key-entry, least_key-least, least_key-none, passes}
 use Rattle.tree_model.specs.Changes.{is_above}
-use Rattle.kernel_parts.specs.Activity.{both, earlier, IsActivity, IsNotEarlier, WaitsLater}
+use Rattle.kernel_model.specs.Families.Polls.{sooner}
+use Rattle.kernel_parts.specs.Activity.{both, IsActivity, IsNotEarlier, WaitsLater}
 use Rattle.kernel_parts.specs.declared.activity.Activity.{Activity}
 use Rattle.kernel_parts.specs.declared.activity.Activity.TheVariants.{NoThread, Busy, Waiting}
 use Rattle.kernel_model.proofs.Tests.{not_true}
@@ -32,18 +35,17 @@ later_through first second NoThread before later = tt
 later_through first second Busy before later = later
 later_through first second (Waiting other) before later = not_earlier_through first second other before later
 
--- the earlier one is the first and not after the second, or the other way round
-earlier_is : (first second : Option ℕ)
-    → ((earlier first second ≡ first) × IsNotEarlier first second) ⊎ ((earlier first second ≡ second) × IsNotEarlier second first)
-earlier_is None None = inl (refl, tt)
-earlier_is None (Some second) = inr (refl, tt)
-earlier_is (Some first) None = inl (refl, tt)
-earlier_is (Some first) (Some second) =
-    elim (nat_lt second first) as (λ b. nat_lt second first ≡ b
-    → (((if b then Some second else Some first) ≡ Some first) × (first ≤ second)) ⊎ (((if b then Some second else Some first) ≡ Some second) × (second ≤ first))) [
-      | true ↦ λ e. (let less = ltb-true second first e in inr (refl, omega (arith, less)))
-      | false ↦ λ e. inl (refl, ltb-false second first e)
-    ] refl
+-- the sooner one is the first and not after the second, or the other way round
+sooner_is : (first second : Option ℕ)
+    → ((sooner first second ≡ first) × IsNotEarlier first second) ⊎ ((sooner first second ≡ second) × IsNotEarlier second first)
+sooner_is None None = inl (refl, tt)
+sooner_is None (Some second) = inr (refl, tt)
+sooner_is (Some first) None = inl (refl, tt)
+sooner_is (Some first) (Some second) =
+    elim (leb_tells first second) [
+      | inl before ↦ inl (ap Some (min-eq_left before.1), before.1)
+      | inr after ↦ (let less : second ≤ first = omega (arith, after.1) in inr (ap Some (min_comm first second ∙ min-eq_left less), less))
+    ]
 
 -- ---- activities
 
@@ -88,7 +90,7 @@ module _ {I : Type 0} (does : I → Activity) where
     )
     joined (Waiting until) Busy one other = (other.0, second other.0 other.1, other.2)
     joined (Waiting until) (Waiting next) one other =
-        elim (earlier_is until next) [
+        elim (sooner_is until next) [
           | inl is ↦ subst (λ u. IsActivity does R (Waiting u)) (sym is.0) (
             (one.0.0, first one.0.0 one.0.1, one.0.2),
             each (WaitsLater until) one.1 (λ i q. later_through until next (does i) is.1 (other.1 i q)) tt,

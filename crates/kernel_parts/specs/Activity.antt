@@ -1,5 +1,5 @@
 -- What threads do, taken together.
-use Rattle.std.specs.Prelude.{◌≡◌, ⊤, ℕ, ◌≤◌, nat_lt, Bool, Option, None, Some, if◌then◌else◌}
+use Rattle.std.specs.Prelude.{◌≡◌, ⊤, ℕ, ◌≤◌, Bool, Option, None, Some, if◌then◌else◌}
 use Rattle.std.specs.Ordering.{nat_cmp}
 use Rattle.std.specs.FinMap.{FinMap, get}
 use Rattle.abi_types.specs.declared.constants.Constants.{Constants}
@@ -9,6 +9,7 @@ use Rattle.abi_types.specs.declared.thread.Thread.{Thread}
 use Rattle.abi_types.specs.declared.thread.Thread.TheVariants.{Runnable, Waits}
 use Rattle.kernel_model.specs.Channels.{Channel}
 use Rattle.kernel_model.specs.Deadlines.{soon}
+use Rattle.kernel_model.specs.Families.Polls.{sooner}
 use Rattle.kernel_model.specs.State.{Table, Threads}
 use Rattle.kernel_parts.specs.Waiting.{goes_on}
 use Rattle.kernel_parts.specs.declared.activity.Activity.{Activity}
@@ -34,19 +35,13 @@ activity_at constants opens channels statuses now table threads t = activity_by 
 
 -- ---- of several threads
 
--- the earlier of two moments, or the one that there is
-abbrev pub earlier : Option ℕ → Option ℕ → Option ℕ
-earlier None second = second
-earlier (Some first) None = Some first
-earlier (Some first) (Some second) = if nat_lt second first then Some second else Some first
-
 -- what those do together that do this and that
 abbrev pub both : Activity → Activity → Activity
 both NoThread second = second
 both Busy second = Busy
 both (Waiting first) NoThread = Waiting first
 both (Waiting first) Busy = Busy
-both (Waiting first) (Waiting second) = Waiting (earlier first second)
+both (Waiting first) (Waiting second) = Waiting (sooner first second)
 
 -- the second moment is not before the first, where there are moments; and where there is no first there is no second
 abbrev pub IsNotEarlier : Option ℕ → Option ℕ → Type 0

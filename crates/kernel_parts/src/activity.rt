@@ -1,11 +1,11 @@
 //! What threads do, taken together.
 ghost use Rattle.std.specs.Prelude.{◌≡◌, option_copied};
-ghost use Rattle.kernel_parts.specs.Activity.{activity_of, both, earlier};
+ghost use Rattle.kernel_parts.specs.Activity.{activity_of, both};
 
 use crate::waiting::goes_on;
 use abi_types::Thread;
 use fd_table::FdTable;
-use poll_set::{Surroundings, soon};
+use poll_set::{Surroundings, soon, sooner};
 
 /// What some threads do, taken together.
 #[derive(Clone, Copy)]
@@ -16,19 +16,6 @@ pub enum Activity {
     Busy,
     /// Each thread waits on. The earliest moment until which one of them waits, if there is one.
     Waiting { until: Option<u64> },
-}
-
-// The earlier of two moments, or the one that there is.
-fn earlier(first: Option<u64>, second: Option<u64>) -> Option<u64>
-    ensures { result ≡ earlier first second }
-{
-    match first {
-        None => second,
-        Some(one) => match second {
-            None => first,
-            Some(other) => Some(one.min(other)),
-        },
-    }
 }
 
 impl Activity {
@@ -43,7 +30,7 @@ impl Activity {
                 Activity::NoThread => self,
                 Activity::Busy => Activity::Busy,
                 Activity::Waiting { until: second } => Activity::Waiting {
-                    until: earlier(first, second),
+                    until: sooner(first, second),
                 },
             },
         }

@@ -85,8 +85,8 @@ fn deadline_in(constants: &Constants, since: u64, what: &What) -> Option<u64>
     }
 }
 
-// The sooner of two moments, or the one that there is.
-fn sooner(first: Option<u64>, second: Option<u64>) -> Option<u64>
+/// The sooner of two moments, or the one that there is.
+pub fn sooner(first: Option<u64>, second: Option<u64>) -> Option<u64>
     ensures { result ≡ sooner first second }
 {
     match first {

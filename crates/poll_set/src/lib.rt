@@ -3,7 +3,7 @@
 //! A poll looks at its process's descriptors and at [`Surroundings`], and takes memory for the events of its answer alone.
 #![tactic(auto)]
 
-pub use clocks::{is_due, poll_deadline, soon};
+pub use clocks::{is_due, poll_deadline, soon, sooner};
 pub use events::event_of;
 pub use notes::note_poll;
 pub use polls::{poll, poll_waits};
