@@ -14,6 +14,7 @@ pub use abi_structures::{
 };
 pub use call::{Call, Lookup};
 pub use call_number::CallNumber;
+pub use chan_kind::ChanKind;
 pub use constants::Constants;
 pub use copied::{Copied, EventList, FdList, SubscriptionList};
 pub use counts::Counts;
@@ -40,6 +41,7 @@ pub use who::Who;
 mod call;
 mod call_copy;
 mod call_number;
+mod chan_kind;
 mod constants;
 mod copied;
 mod counts;

@@ -1,4 +1,5 @@
 //! What a descriptor's open is.
+use crate::chan_kind::ChanKind;
 use abi_base::{ObjId, Pid};
 
 /// An open: what the descriptors that share it stand for. Its flags are of those in `flags` whose names begin with `FDFLAG`.
@@ -15,11 +16,12 @@ pub enum OpenKind {
         node: ObjId,
         flags: u16,
     },
-    /// An end of channels: the one that it reads, and the one that it writes.
+    /// An end of channels: the one that it reads, the one that it writes, and of which kind both are.
     End {
         reads: Option<ObjId>,
         writes: Option<ObjId>,
         flags: u16,
+        kind: ChanKind,
     },
     /// A standard stream: 0 is stdin, 1 is stdout, 2 is stderr.
     Terminal {

@@ -8,6 +8,7 @@ use Rattle.std.specs.Prelude.{slice_get}
 use Rattle.std.specs.FinMap.{get}
 use Rattle.abi_base.specs.declared.errno.Errno.TheVariants.{Fault, Success}
 use Rattle.tree_model.specs.Grants.{MayBegin}
+use Rattle.abi_types.specs.declared.chan_kind.ChanKind.{ChanKind}
 use Rattle.abi_types.specs.declared.call.Call.{Call}
 use Rattle.abi_types.specs.declared.call.Call.TheVariants.{SockRecv}
 use Rattle.abi_types.specs.declared.constants.Constants.{Constants}
@@ -97,7 +98,8 @@ record Installs (S : State) (p fd : ℕ) (fds : List ℕ) : Type 0 where
   c : ℕ
   writes : Option ℕ
   mode : ℕ
-  opened : get S.opens x.id ≡ Some (End (Some c) writes mode)
+  form : ChanKind
+  opened : get S.opens x.id ≡ Some (End (Some c) writes mode form)
   channel : Channel
   there : get S.chans c ≡ Some channel
   ds : List Descriptor
@@ -137,7 +139,7 @@ module _ (S : State) (p : ℕ) (table : Table) (fd n room flags : ℕ) (own : ge
   lists_at None here = λ success. inl refl
   lists_at (Some x) here =
       receive_holds p table (whole (tick S)) n room flags Lists (λ errno listed success. inl refl) tt (λ bytes success. inl refl) (get S.opens x.id)
-      (λ c w mode channel installed opened there made success.
+      (λ c w mode form channel installed opened there made success.
       let comes = comes_first room (min n (reach channel.waiting)) channel.waiting in
       inr (record {
         table = table;
@@ -147,6 +149,7 @@ module _ (S : State) (p : ℕ) (table : Table) (fd n room flags : ℕ) (own : ge
         c = c;
         writes = Some w;
         mode = mode;
+        form = form;
         opened = opened;
         channel = channel;
         there = there;
@@ -185,6 +188,7 @@ wake_lists constants S who fd n room flags (wake.Plain word) reply T is success 
         c = i.c;
         writes = i.writes;
         mode = i.mode;
+        form = i.form;
         opened = i.opened;
         channel = i.channel;
         there = i.there;
@@ -276,6 +280,7 @@ module _ (launch : Launch) (front : List Entry) (e : Entry) (rest : List Entry) 
       c = i.c;
       writes = i.writes;
       mode = i.mode;
+      form = i.form;
       opened = i.opened;
       channel = i.channel;
       there = i.there;

@@ -78,7 +78,7 @@ opened_below t u c start new (File n offset flags) same none file (inr made) = i
   named = ap (λ (w : Tree). entry_of w made.1.0 made.1.1) same ∙ made.1.3;
 })
 opened_below t u c start new (Directory n flags) same none there under = under
-opened_below t u c start new (End reads writes flags) same none there under = absurd under
+opened_below t u c start new (End reads writes flags form) same none there under = absurd under
 opened_below t u c start new (Terminal which flags) same none there under = absurd under
 opened_below t u c start new (Process p object) same none there under = absurd under
 
@@ -183,7 +183,7 @@ module _ (S : State) (p : ℕ) (table : Table) (lookup : Lookup) (path : List �
     open_leads x None held is = nothing_leads (lowest_free table)
     open_leads x (Some (Directory start flags)) held is = directory_leads x start flags held is now
     open_leads x (Some (File n offset flags)) held is = nothing_leads (lowest_free table)
-    open_leads x (Some (End reads writes flags)) held is = nothing_leads (lowest_free table)
+    open_leads x (Some (End reads writes flags form)) held is = nothing_leads (lowest_free table)
     open_leads x (Some (Terminal which flags)) held is = nothing_leads (lowest_free table)
     open_leads x (Some (Process q object)) held is = nothing_leads (lowest_free table)
 
@@ -230,7 +230,7 @@ below_stays : (U : State) (t : Tree) (start : ℕ) (kind : OpenKind) → IsTree 
 below_stays U t start (File n offset flags) tree (inl under) = inl under
 below_stays U t start (File n offset flags) tree (inr is) = inr (new_stays U t start n tree is)
 below_stays U t start (Directory n flags) tree under = under
-below_stays U t start (End reads writes flags) tree under = absurd under
+below_stays U t start (End reads writes flags form) tree under = absurd under
 below_stays U t start (Terminal which flags) tree under = absurd under
 below_stays U t start (Process p object) tree under = absurd under
 

@@ -9,6 +9,7 @@ use Rattle.std.specs.FinMap.{get, get-empty, insert}
 use Rattle.abi_base.specs.declared.errno.Errno.{Errno}
 use Rattle.abi_base.specs.declared.errno.Errno.TheVariants.{Fault, Success}
 use Rattle.tree_model.specs.Grants.{MayBegin}
+use Rattle.abi_types.specs.declared.chan_kind.ChanKind.{ChanKind}
 use Rattle.abi_types.specs.declared.call.Call.{Call}
 use Rattle.abi_types.specs.declared.call.Call.TheVariants.{FdWrite, SockSend}
 use Rattle.abi_types.specs.declared.constants.Constants.{Constants}
@@ -97,7 +98,7 @@ module _ (S : State) (bytes : List ℕ) (carried : List Descriptor) where
   send_at_holds None = itself S
   send_at_holds (Some d) =
       send_holds S bytes carried (Holds S) (λ errno other. itself S) (itself S) (λ none. itself S) (get S.opens d.id)
-      (λ r c mode channel opened there some. pushed_holds S c channel (take (room channel) bytes) carried there)
+      (λ r c mode form channel opened there some. pushed_holds S c channel (take (room channel) bytes) carried there)
 
 pub send_as_much : (constants : Constants) (S : State) (who : Who) (fd : ℕ) (bytes fds : List ℕ) (flags : ℕ)
     → HoldsAsMuch (tick S) (unreleased constants S who (SockSend fd bytes fds flags))
@@ -111,14 +112,14 @@ send_as_much constants S who fd bytes fds flags =
 -- ---- opens of ends
 
 -- what is of the same as an end that writes a channel writes it, and was one
-same_writes : (reads : Option ℕ) (c mode : ℕ) (kind : OpenKind) → IsOfSame (End reads (Some c) mode) kind → written_by (Some kind) ≡ Some c
-same_writes reads c mode (End r w m) same = sym same.1
-same_writes reads c mode kind same = absurd same
+same_writes : (reads : Option ℕ) (c mode : ℕ) (form : ChanKind) (kind : OpenKind) → IsOfSame (End reads (Some c) mode form) kind → written_by (Some kind) ≡ Some c
+same_writes reads c mode form (End r w m other_form) same = sym same.1
+same_writes reads c mode form kind same = absurd same
 
-was_end : (kind : OpenKind) (reads writes : Option ℕ) (flags : ℕ) → IsOfSame kind (End reads writes flags)
-    → (r : Option ℕ) × (mode : ℕ) × (kind ≡ End r writes mode)
-was_end (End r w mode) reads writes flags same = (r, mode, ap (λ o. End r o mode) same.1)
-was_end kind reads writes flags same = absurd same
+was_end : (kind : OpenKind) (reads writes : Option ℕ) (flags : ℕ) (other_form : ChanKind) → IsOfSame kind (End reads writes flags other_form)
+    → (r : Option ℕ) × (mode : ℕ) × (form : ChanKind) × (kind ≡ End r writes mode form)
+was_end (End r w mode form) reads writes flags other_form same = (r, mode, form, ap (λ o. End r o mode form) same.1)
+was_end kind reads writes flags other_form same = absurd same
 
 no_bytes : 0 < 0 → ⊥
 no_bytes some = omega (arith, some)
@@ -170,10 +171,10 @@ module _ (launch : Launch) (front : List Entry) (e : Entry) (begins : MayBegin l
 
   -- an open that writes a channel after the entry, and that a descriptor names which was held before it, wrote it before
   kind_wrote : (o c : ℕ) (kind : OpenKind) → get S.opens o ≡ Some kind → (now : Option OpenKind) → get U.opens o ≡ now → written_by now ≡ Some c
-      → (reads : Option ℕ) × (mode : ℕ) × (get S.opens o ≡ Some (End reads (Some c) mode))
-  kind_wrote o c kind there (Some (End reads writes flags)) at is =
-      let was = was_end kind reads writes flags (opens_stay launch front e [] begins legal o kind (End reads writes flags) there at) in
-      (was.0, was.1, there ∙ ap (λ k. Some k) was.2 ∙ ap (λ w. Some (End was.0 w was.1)) is)
+      → (reads : Option ℕ) × (mode : ℕ) × (form : ChanKind) × (get S.opens o ≡ Some (End reads (Some c) mode form))
+  kind_wrote o c kind there (Some (End reads writes flags form)) at is =
+      let was = was_end kind reads writes flags form (opens_stay launch front e [] begins legal o kind (End reads writes flags form) there at) in
+      (was.0, was.1, was.2, there ∙ ap (λ k. Some k) was.3 ∙ ap (λ w. Some (End was.0 w was.1 was.2)) is)
   kind_wrote o c kind there now at is = absurd (none_is_no c is)
 
   -- an entry that the ledger takes for one that sends to the channel put something into it
@@ -195,7 +196,8 @@ module _ (launch : Launch) (front : List Entry) (e : Entry) (begins : MayBegin l
         socket = held;
         reads = wrote.0;
         mode = wrote.1;
-        opened = wrote.2;
+        form = wrote.2;
+        opened = wrote.3;
       }
 
   -- ---- earlier sends
@@ -305,6 +307,7 @@ module _ (launch : Launch) (front : List Entry) (e : Entry) (begins : MayBegin l
       socket = s.socket;
       reads = s.reads;
       mode = s.mode;
+      form = s.form;
       opened = s.opened;
     }
 
@@ -315,7 +318,7 @@ module _ (launch : Launch) (front : List Entry) (e : Entry) (begins : MayBegin l
         let now = held_open launch begins (front ++ e ∷ []) e.pid s.fd s.x legal held in
         ap (channel_of shown) s.socket ∙ ap written_by now.1
         ∙ same_writes s.reads c s.mode now.0
-        (opens_stay launch front e [] begins legal s.x.id (End s.reads (Some c) s.mode) now.0 s.opened now.1)
+        (opens_stay launch front e [] begins legal s.x.id (End s.reads (Some c) s.mode form) now.0 s.opened now.1)
 
     done_sends : acted_sends shown row sent e.act ≡ granted_sends shown row sent sending
     done_sends = acts ∙ ap (λ errno. by_success errno (granted_sends shown row sent sending) sent) s.succeeds.success where

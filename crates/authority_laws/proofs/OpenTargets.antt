@@ -33,7 +33,7 @@ launch_of_same : (a b : OpenKind) → IsOfSame a b → IsOfLaunch b → IsOfLaun
 launch_of_same (File n offset flags) b same of = tt
 launch_of_same (Directory n flags) b same of = tt
 launch_of_same (Terminal which flags) b same of = tt
-launch_of_same (End reads writes flags) (End other_reads other_writes other_flags) same of = of
+launch_of_same (End reads writes flags form) (End other_reads other_writes other_flags other_form) same of = of
 launch_of_same (Process q object) (Process r other) same of = of
 launch_of_same a b same of = absurd same
 

@@ -5,6 +5,7 @@ use Rattle.std.specs.FinMap.{get}
 use Rattle.abi_base.specs.declared.errno.Errno.TheVariants.{Fault, Success}
 use Rattle.abi_base.specs.declared.signal.Signal.TheVariants.{Xcpu}
 use Rattle.tree_model.specs.Grants.{MayBegin}
+use Rattle.abi_types.specs.declared.chan_kind.ChanKind.{ChanKind}
 use Rattle.abi_types.specs.declared.call.Call.{Call}
 use Rattle.abi_types.specs.declared.call.Call.TheVariants.{FdWrite, SockSend}
 use Rattle.abi_types.specs.declared.constants.Constants.{Constants}
@@ -67,7 +68,8 @@ record ActPuts (S : State) (who : Who) (a : Act) (c : ℕ) : Type 0 where
   socket : get table fd ≡ Some d
   reads : Option ℕ
   mode : ℕ
-  opened : get S.opens d.id ≡ Some (End reads (Some c) mode)
+  form : ChanKind
+  opened : get S.opens d.id ≡ Some (End reads (Some c) mode form)
 
 -- what is shown of an act
 abbrev ActCounts : State → State → Who → Act → ℕ → Channel → Channel → Type 0
@@ -92,6 +94,7 @@ act_of S who call given a c answers puts = record {
   socket = puts.socket;
   reads = puts.reads;
   mode = puts.mode;
+  form = puts.form;
   opened = puts.opened;
 }
 
@@ -111,6 +114,7 @@ call_of S who call given a c puts same replied = record {
   socket = puts.socket;
   reads = puts.reads;
   mode = puts.mode;
+  form = puts.form;
   opened = puts.opened;
 }
 
@@ -167,6 +171,7 @@ puts_by_word S who word call given c puts = record {
   socket = puts.socket;
   reads = puts.reads;
   mode = puts.mode;
+  form = puts.form;
   opened = puts.opened;
 }
 
@@ -189,6 +194,7 @@ puts_with_word S who word call given c puts = record {
   socket = puts.socket;
   reads = puts.reads;
   mode = puts.mode;
+  form = puts.form;
   opened = puts.opened;
 }
 
@@ -226,6 +232,7 @@ wake_counts constants S who call (wake.Plain word) answered T c was now valid is
         socket = p.socket;
         reads = p.reads;
         mode = p.mode;
+        form = p.form;
         opened = p.opened;
       }
 
@@ -245,6 +252,7 @@ wake_counts constants S who call (wake.Plain word) answered T c was now valid is
         socket = p.socket;
         reads = p.reads;
         mode = p.mode;
+        form = p.form;
         opened = p.opened;
       }
 wake_counts constants S who call wake.Fault answered T c was now valid is before after = inr (
@@ -325,6 +333,7 @@ module _ (launch : Launch) (front : List Entry) (e : Entry) (rest : List Entry) 
     socket = sym (row_is puts.table puts.own puts.fd) ∙ puts.socket;
     reads = puts.reads;
     mode = puts.mode;
+    form = puts.form;
     opened = puts.opened;
   }
 
@@ -346,6 +355,7 @@ module _ (launch : Launch) (front : List Entry) (e : Entry) (rest : List Entry) 
         socket = holds.3;
         reads = puts.reads;
         mode = puts.mode;
+        form = puts.form;
         opened = puts.opened;
       }
 

@@ -10,6 +10,7 @@ use Rattle.std.specs.FinMap.{get, get-empty}
 use Rattle.abi_base.specs.declared.errno.Errno.TheVariants.{Success}
 use Rattle.abi_base.specs.declared.signal.Signal.TheVariants.{Xcpu}
 use Rattle.tree_model.specs.Grants.{MayBegin}
+use Rattle.abi_types.specs.declared.chan_kind.ChanKind.{ChanKind}
 use Rattle.abi_types.specs.declared.call.Call.{Call}
 use Rattle.abi_types.specs.declared.call.Call.TheVariants.{SockSend}
 use Rattle.abi_types.specs.declared.constants.Constants.{Constants}
@@ -130,7 +131,8 @@ pub record SentNow (S : State) (who : Who) (a : Act) (c : ℕ) (carried : List D
   socket : get table fd ≡ Some d
   reads : Option ℕ
   mode : ℕ
-  opened : get S.opens d.id ≡ Some (End reads (Some c) mode)
+  form : ChanKind
+  opened : get S.opens d.id ≡ Some (End reads (Some c) mode form)
   listed : carried ≡ channel_calls.picked table fds
 
 -- how a channel goes on by an act
@@ -155,6 +157,7 @@ by_call S who call given c carried (inr sent) = inr (record {
   socket = sent.socket;
   reads = sent.reads;
   mode = sent.mode;
+  form = sent.form;
   opened = sent.opened;
   listed = sent.listed;
 })
@@ -178,6 +181,7 @@ by_wake S who call word answered c carried (inr sent) = inr (record {
   socket = sent.socket;
   reads = sent.reads;
   mode = sent.mode;
+  form = sent.form;
   opened = sent.opened;
   listed = sent.listed;
 })
@@ -284,6 +288,7 @@ module _ (launch : Launch) (front : List Entry) (e : Entry) (begins : MayBegin l
         socket = sym (same sent.fd) ∙ sent.socket;
         reads = sent.reads;
         mode = sent.mode;
+        form = sent.form;
         opened = sent.opened;
         listed = sent.listed ∙ picked_same sent.table (held_before launch front e) same sent.fds;
       }

@@ -6,6 +6,8 @@ use Rattle.std.proofs.lemmas.List.{take-append-drop}
 use Rattle.std.specs.FinMap.{get, insert}
 use Rattle.abi_base.specs.declared.errno.Errno.{Errno}
 use Rattle.abi_base.specs.declared.errno.Errno.TheVariants.{Badf, Success}
+use Rattle.abi_types.specs.declared.chan_kind.ChanKind.{ChanKind}
+use Rattle.abi_types.specs.declared.chan_kind.ChanKind.TheVariants as chan_kind
 use Rattle.abi_types.specs.declared.call.Call.{Call}
 use Rattle.abi_types.specs.declared.call.Call.TheVariants.{FdCreate2, SockRecv}
 use Rattle.abi_types.specs.declared.descriptor.Descriptor.{Descriptor}
@@ -52,7 +54,7 @@ module _ (S : State) (p : ℕ) (own : ProcessState) (table : Table) (first secon
       (new_held (recently_made (after_pair made) p 1) ≡ Some (end_descriptor a one))
       × (new_held (recently_made (after_pair made) p 0) ≡ Some (end_descriptor b two))
 
-  pipe_made : last_end pipe (number 2) (End (Some (number 1)) None 0) (number 3) (End None (Some (number 1)) 0)
+  pipe_made : last_end pipe (number 2) (End (Some (number 1)) None 0 chan_kind.Stream) (number 3) (End None (Some (number 1)) 0 chan_kind.Stream)
   pipe_made = (
     (λ i. new_held (record { number = object_of p (before i); kind = get (after_pair pipe).opens (object_of p (before i)) })) ∙ first_is,
     (λ i. new_held (record { number = object_of p (now i); kind = get (after_pair pipe).opens (object_of p (now i)) })) ∙ second_is,
@@ -63,22 +65,22 @@ module _ (S : State) (p : ℕ) (own : ProcessState) (table : Table) (first secon
     before : (counts_in (get (after_pair pipe).processes p)).objects - 1 ≡ own.counts.objects + 2
     before = ap (λ n. n - 1) now ∙ less_one own.counts.objects 2
 
-    opens_is : (after_pair pipe).opens ≡ insert (insert S.opens (number 2) (End (Some (number 1)) None 0)) (number 3) (End None (Some (number 1)) 0)
+    opens_is : (after_pair pipe).opens ≡ insert (insert S.opens (number 2) (End (Some (number 1)) None 0 chan_kind.Stream)) (number 3) (End None (Some (number 1)) 0 chan_kind.Stream)
     opens_is = refl
 
-    first_is : new_held (record { number = number 2; kind = get (after_pair pipe).opens (number 2) }) ≡ Some (end_descriptor (number 2) (End (Some (number 1)) None 0))
+    first_is : new_held (record { number = number 2; kind = get (after_pair pipe).opens (number 2) }) ≡ Some (end_descriptor (number 2) (End (Some (number 1)) None 0 chan_kind.Stream))
     first_is =
         ap (λ k. new_held (record { number = number 2; kind = k }))
-        (get-insert-other (insert S.opens (number 2) (End (Some (number 1)) None 0)) (number 3) (End None (Some (number 1)) 0) (number 2)
+        (get-insert-other (insert S.opens (number 2) (End (Some (number 1)) None 0 chan_kind.Stream)) (number 3) (End None (Some (number 1)) 0 chan_kind.Stream) (number 2)
         (apart_numbers 2 3 (λ e. omega (arith, e)))
-        ∙ get-insert-same S.opens (number 2) (End (Some (number 1)) None 0))
+        ∙ get-insert-same S.opens (number 2) (End (Some (number 1)) None 0 chan_kind.Stream))
 
-    second_is : new_held (record { number = number 3; kind = get (after_pair pipe).opens (number 3) }) ≡ Some (end_descriptor (number 3) (End None (Some (number 1)) 0))
+    second_is : new_held (record { number = number 3; kind = get (after_pair pipe).opens (number 3) }) ≡ Some (end_descriptor (number 3) (End None (Some (number 1)) 0 chan_kind.Stream))
     second_is =
         ap (λ k. new_held (record { number = number 3; kind = k }))
-        (get-insert-same (insert S.opens (number 2) (End (Some (number 1)) None 0)) (number 3) (End None (Some (number 1)) 0))
+        (get-insert-same (insert S.opens (number 2) (End (Some (number 1)) None 0 chan_kind.Stream)) (number 3) (End None (Some (number 1)) 0 chan_kind.Stream))
 
-  pair_made : last_end pair (number 3) (End (Some (number 1)) (Some (number 2)) 0) (number 4) (End (Some (number 2)) (Some (number 1)) 0)
+  pair_made : last_end pair (number 3) (End (Some (number 1)) (Some (number 2)) 0 chan_kind.Stream) (number 4) (End (Some (number 2)) (Some (number 1)) 0 chan_kind.Stream)
   pair_made = (
     (λ i. new_held (record { number = object_of p (before i); kind = get (after_pair pair).opens (object_of p (before i)) })) ∙ first_is,
     (λ i. new_held (record { number = object_of p (now i); kind = get (after_pair pair).opens (object_of p (now i)) })) ∙ second_is,
@@ -90,18 +92,18 @@ module _ (S : State) (p : ℕ) (own : ProcessState) (table : Table) (first secon
     before = ap (λ n. n - 1) now ∙ less_one own.counts.objects 3
 
     first_is : new_held (record { number = number 3; kind = get (after_pair pair).opens (number 3) })
-        ≡ Some (end_descriptor (number 3) (End (Some (number 1)) (Some (number 2)) 0))
+        ≡ Some (end_descriptor (number 3) (End (Some (number 1)) (Some (number 2)) 0 chan_kind.Stream))
     first_is =
         ap (λ k. new_held (record { number = number 3; kind = k }))
-        (get-insert-other (insert S.opens (number 3) (End (Some (number 1)) (Some (number 2)) 0)) (number 4) (End (Some (number 2)) (Some (number 1)) 0) (number 3)
+        (get-insert-other (insert S.opens (number 3) (End (Some (number 1)) (Some (number 2)) 0 chan_kind.Stream)) (number 4) (End (Some (number 2)) (Some (number 1)) 0 chan_kind.Stream) (number 3)
         (apart_numbers 3 4 (λ e. omega (arith, e)))
-        ∙ get-insert-same S.opens (number 3) (End (Some (number 1)) (Some (number 2)) 0))
+        ∙ get-insert-same S.opens (number 3) (End (Some (number 1)) (Some (number 2)) 0 chan_kind.Stream))
 
     second_is : new_held (record { number = number 4; kind = get (after_pair pair).opens (number 4) })
-        ≡ Some (end_descriptor (number 4) (End (Some (number 2)) (Some (number 1)) 0))
+        ≡ Some (end_descriptor (number 4) (End (Some (number 2)) (Some (number 1)) 0 chan_kind.Stream))
     second_is =
         ap (λ k. new_held (record { number = number 4; kind = k }))
-        (get-insert-same (insert S.opens (number 3) (End (Some (number 1)) (Some (number 2)) 0)) (number 4) (End (Some (number 2)) (Some (number 1)) 0))
+        (get-insert-same (insert S.opens (number 3) (End (Some (number 1)) (Some (number 2)) 0 chan_kind.Stream)) (number 4) (End (Some (number 2)) (Some (number 1)) 0 chan_kind.Stream))
 
   -- so they stand under the results
   rows_are : (a b : Descriptor) (x y : Option Descriptor) → get S.tables p ≡ Some table → x ≡ Some a → y ≡ Some b
@@ -115,11 +117,11 @@ module _ (S : State) (p : ℕ) (own : ProcessState) (table : Table) (first secon
       ≡ with_held (with_held (row_of S p) first (new_held (recently_made (after_pair made) p 1))) second (new_held (recently_made (after_pair made) p 0))
   pair_row pipe there =
       ap row_in (get-insert-same S.tables p _)
-      ∙ rows_are (end_descriptor (number 2) (End (Some (number 1)) None 0)) (end_descriptor (number 3) (End None (Some (number 1)) 0))
+      ∙ rows_are (end_descriptor (number 2) (End (Some (number 1)) None 0 chan_kind.Stream)) (end_descriptor (number 3) (End None (Some (number 1)) 0 chan_kind.Stream))
       (new_held (recently_made (after_pair pipe) p 1)) (new_held (recently_made (after_pair pipe) p 0)) there pipe_made.0 pipe_made.1
   pair_row pair there =
       ap row_in (get-insert-same S.tables p _)
-      ∙ rows_are (end_descriptor (number 3) (End (Some (number 1)) (Some (number 2)) 0)) (end_descriptor (number 4) (End (Some (number 2)) (Some (number 1)) 0))
+      ∙ rows_are (end_descriptor (number 3) (End (Some (number 1)) (Some (number 2)) 0 chan_kind.Stream)) (end_descriptor (number 4) (End (Some (number 2)) (Some (number 1)) 0 chan_kind.Stream))
       (new_held (recently_made (after_pair pair) p 1)) (new_held (recently_made (after_pair pair) p 0)) there pair_made.0 pair_made.1
 
 pub pair_reported : (kind : ℕ) (S : State) (p t : ℕ) (table : Table) → get S.tables p ≡ Some table
@@ -177,10 +179,10 @@ module _ (S : State) (p : ℕ) (table : Table) (fd n room flags : ℕ) (own : ge
   abbrev receiving : Call
   receiving = SockRecv fd n room flags
 
-  taken_row : (d : Descriptor) (c w mode : ℕ) (channel : Channel) (installed : Installed) → get table fd ≡ Some d
-      → get S.opens d.id ≡ Some (End (Some c) (Some w) mode) → get S.chans c ≡ Some channel
+  taken_row : (d : Descriptor) (c w mode : ℕ) (form : ChanKind) (channel : Channel) (installed : Installed) → get table fd ≡ Some d
+      → get S.opens d.id ≡ Some (End (Some c) (Some w) mode form) → get S.chans c ≡ Some channel
       → install table (take room (pull n channel).carried) ≡ Some installed → LeavesRow S p receiving (takes p c room (pull n channel) installed)
-  taken_row d c w mode channel installed here opened there made =
+  taken_row d c w mode form channel installed here opened there made =
       let U : State = put_all (takes p c room (pull n channel) installed).updates S in
       let came : waits_for S.chans (get S.opens d.id) ≡ first_carried channel.waiting =
       ap (waits_for S.chans) opened ∙ ap carried_first there in
@@ -194,4 +196,4 @@ module _ (S : State) (p : ℕ) (table : Table) (fd n room flags : ℕ) (own : ge
   receive_reported (Some d) here =
       receive_holds p table (whole S) n room flags (LeavesRow S p receiving)
       (λ errno listed. refused_reported S p receiving errno (receive_is_error errno listed)) refl (λ bytes. refl) (get S.opens d.id)
-      (λ c w mode channel installed opened there made. taken_row d c w mode channel installed here opened there made)
+      (λ c w mode form channel installed opened there made. taken_row d c w mode form channel installed here opened there made)

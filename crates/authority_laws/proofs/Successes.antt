@@ -134,7 +134,7 @@ second_has a b k has =
 inheriting_small : (kind : OpenKind) → fits_inheriting kind < 2 ^ 64
 inheriting_small (File node offset flags) = omega arith
 inheriting_small (Directory node flags) = omega arith
-inheriting_small (End reads writes flags) = omega arith
+inheriting_small (End reads writes flags form) = omega arith
 inheriting_small (Terminal which flags) = omega arith
 inheriting_small (Process p object) = omega arith
 

@@ -233,6 +233,7 @@ module _ (launch : Launch) (front : List Entry) (e : Entry) (begins : MayBegin l
               socket = from.socket;
               writes = from.writes;
               mode = from.mode;
+              form = from.form;
               opened = from.opened;
               came = from.came;
             } in

@@ -10,6 +10,7 @@ use Rattle.std.specs.FinMap.{get, get-empty}
 use Rattle.std.specs.Ordering.{nat_cmp}
 use Rattle.abi_base.specs.declared.signal.Signal.TheVariants.{Xcpu}
 use Rattle.tree_model.specs.Grants.{MayBegin}
+use Rattle.abi_types.specs.declared.chan_kind.ChanKind.{ChanKind}
 use Rattle.abi_types.specs.declared.status.Status.TheVariants.{Killed}
 use Rattle.abi_base.specs.declared.errno.Errno.TheVariants.{Success}
 use Rattle.abi_types.specs.declared.call.Call.{Call}
@@ -291,13 +292,14 @@ pub record CameFrom (launch : Launch) (front : List Entry) (o : Option Descripto
   pub socket : o ≡ Some x
   pub writes : Option ℕ
   pub mode : ℕ
-  pub opened : get (world launch front).state.opens x.id ≡ Some (End (Some c) writes mode)
+  pub form : ChanKind
+  pub opened : get (world launch front).state.opens x.id ≡ Some (End (Some c) writes mode form)
   pub came : IsIn d (carried_first (get (world launch front).state.chans c))
 
 kind_came : (launch : Launch) (front : List Entry) (x d : Descriptor) (kind : Option OpenKind) → get (world launch front).state.opens x.id ≡ kind
     → IsIn d (waits_for (world launch front).state.chans kind) → CameFrom launch front (Some x) d
-kind_came launch front x d (Some (End (Some c) writes flags)) at is =
-    record { c = c; x = x; socket = refl; writes = writes; mode = flags; opened = at; came = is }
+kind_came launch front x d (Some (End (Some c) writes flags form)) at is =
+    record { c = c; x = x; socket = refl; writes = writes; mode = flags; form = form; opened = at; came = is }
 kind_came launch front x d kind at is = absurd (no_item d is.0 is.1 is.2)
 
 pub came_from : (launch : Launch) (front : List Entry) (e : Entry) (o : Option Descriptor) (d : Descriptor) → IsIn d (came_for (after_at launch front e) o)

@@ -1,6 +1,7 @@
 -- Which entry sent the descriptors that a receive installs.
 use Rattle.std.specs.Prelude.{◌≡◌, ◌⊎◌, ◌+◌, ◌<◌, ℕ, suc, List, [], ◌∷◌, ◌++◌, length, Option, None, Some, slice_get}
 use Rattle.std.specs.FinMap.{get}
+use Rattle.abi_types.specs.declared.chan_kind.ChanKind.{ChanKind}
 use Rattle.abi_types.specs.declared.call.Call.{Call}
 use Rattle.abi_types.specs.declared.call.Call.TheVariants.{FdWrite, SockRecv, SockSend}
 use Rattle.abi_types.specs.declared.descriptor.Descriptor.{Descriptor}
@@ -28,7 +29,8 @@ pub record SendsTo (launch : Launch) (early : List Entry) (sender : Entry) (c : 
   pub socket : held_before launch early sender fd ≡ Some x
   pub reads : Option ℕ
   pub mode : ℕ
-  pub opened : get (world launch early).state.opens x.id ≡ Some (End reads (Some c) mode)
+  pub form : ChanKind
+  pub opened : get (world launch early).state.opens x.id ≡ Some (End reads (Some c) mode form)
   pub listed : carried ≡ picked (held_before launch early sender) fds
 
 -- One of these entries put into channel c the send that is number j there, the first being 1: so many less one had left the channel before it,
@@ -52,7 +54,8 @@ pub record IsDelivered (launch : Launch) (front : List Entry) (e : Entry) (fd k 
   pub c : ℕ
   pub writes : Option ℕ
   pub mode : ℕ
-  pub opened : get (world launch front).state.opens x.id ≡ Some (End (Some c) writes mode)
+  pub form : ChanKind
+  pub opened : get (world launch front).state.opens x.id ≡ Some (End (Some c) writes mode form)
   pub channel : Channel
   pub there : get (world launch front).state.chans c ≡ Some channel
   pub carried : List Descriptor
@@ -87,7 +90,8 @@ pub record PutsInto (launch : Launch) (front : List Entry) (e : Entry) (c : ℕ)
   pub socket : held_before launch front e fd ≡ Some x
   pub reads : Option ℕ
   pub mode : ℕ
-  pub opened : get (world launch front).state.opens x.id ≡ Some (End reads (Some c) mode)
+  pub form : ChanKind
+  pub opened : get (world launch front).state.opens x.id ≡ Some (End reads (Some c) mode form)
 
 -- The sends of a channel that is there before and after an entry are one more after it where it put one into the channel, and else as many.
 abbrev pub CountsMore : Launch → List Entry → Entry → Type 0

@@ -117,7 +117,7 @@ carried_first (Some channel) = first_carried channel.waiting
 
 -- what the first send carries that waits for an open, in the channel that this reads
 abbrev pub waits_for : FinMap nat_cmp Channel → Option OpenKind → List Descriptor
-waits_for chans (Some (End (Some c) writes flags)) = carried_first (get chans c)
+waits_for chans (Some (End (Some c) writes flags form)) = carried_first (get chans c)
 waits_for chans _ = []
 
 -- whether a process has a thread left
@@ -157,7 +157,7 @@ opened_held made stat = option_map (λ kind. opened_descriptor made.number kind 
 
 -- whether opens of the kind are made of no descriptor: those of processes and of ends of channels
 abbrev pub is_new : OpenKind → Bool
-is_new (End reads writes flags) = true
+is_new (End reads writes flags form) = true
 is_new (Process p object) = true
 is_new _ = false
 
@@ -247,7 +247,7 @@ made_child after _ = None
 
 -- the channel that an open writes, if it is an end that writes one
 abbrev pub written_by : Option OpenKind → Option ℕ
-written_by (Some (End reads writes flags)) = writes
+written_by (Some (End reads writes flags form)) = writes
 written_by _ = None
 
 -- the channel that the descriptor's open writes

@@ -4,6 +4,7 @@ use Rattle.std.specs.FinMap.{get}
 use Rattle.abi_base.specs.declared.grant.Grant.{Grant}
 use Rattle.abi_base.specs.declared.flags.TheConstants.{FDSTAT_RIGHTS}
 use Rattle.abi_structures.specs.declared.structures.FdStat.{FdStat}
+use Rattle.abi_types.specs.declared.chan_kind.ChanKind.{ChanKind}
 use Rattle.abi_types.specs.declared.call.Call.TheVariants.{FdCreate2, FdDup, FdReplace, FdStatPut, FileOpen, ProcExec, ProcFork, SockRecv, SockSend}
 use Rattle.abi_types.specs.declared.call.Lookup.{Lookup}
 use Rattle.abi_types.specs.declared.descriptor.Descriptor.{Descriptor}
@@ -87,7 +88,8 @@ pub record Receives (launch : Launch) (front : List Entry) (e : Entry) (n c : �
   pub socket : held_before launch front e fd ≡ Some x
   pub writes : Option ℕ
   pub mode : ℕ
-  pub opened : get (world launch front).state.opens x.id ≡ Some (End (Some c) writes mode)
+  pub form : ChanKind
+  pub opened : get (world launch front).state.opens x.id ≡ Some (End (Some c) writes mode form)
   pub came : IsIn d (carried_first (get (world launch front).state.chans c))
 
 -- the open of this number is there, and is of what this open is of

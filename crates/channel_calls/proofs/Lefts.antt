@@ -10,6 +10,8 @@ use Rattle.std.proofs.lemmas.Bool.{eq-eqb}
 use Rattle.std.proofs.lemmas.Bool.Decides.{eqb_tells}
 use Rattle.std.specs.FinMap.{get, insert, remove}
 use Rattle.std.specs.Option.{option_map}
+use Rattle.abi_types.specs.declared.chan_kind.ChanKind.{ChanKind}
+use Rattle.abi_types.specs.declared.chan_kind.ChanKind.TheVariants as chan_kind
 use Rattle.abi_types.specs.declared.open_kind.OpenKind.{OpenKind}
 use Rattle.abi_types.specs.declared.open_kind.OpenKind.TheVariants.{File, Directory, End, Terminal, Process}
 use Rattle.channels.specs.declared.side.Side.{Side}
@@ -66,14 +68,14 @@ none_left_by kind m goes none =
     same_numbers m (channels_left kind m) (λ q. sym (left_at_key kind m q ∙ same_kept (get m q) (is_reader q (Some kind)) (is_writer q (Some kind)) (goes q) (none q).0 (none q).1))
 
 pub nothing_left : (which : Side) (m : Channels) → AllGoOn m → m ≡ channels_left (end_at which None) m
-nothing_left Reader m goes = none_left_by (End None None 0) m goes (λ q. (refl, refl))
-nothing_left Writer m goes = none_left_by (End None None 0) m goes (λ q. (refl, refl))
+nothing_left Reader m goes = none_left_by (End None None 0 chan_kind.Stream) m goes (λ q. (refl, refl))
+nothing_left Writer m goes = none_left_by (End None None 0 chan_kind.Stream) m goes (λ q. (refl, refl))
 
-pub other_left : (kind : OpenKind) (m : Channels) → AllGoOn m → ((reads writes : Option ℕ) (flags : ℕ) → kind ≡ End reads writes flags → ⊥)
+pub other_left : (kind : OpenKind) (m : Channels) → AllGoOn m → ((reads writes : Option ℕ) (flags : ℕ) (form : ChanKind) → kind ≡ End reads writes flags form → ⊥)
     → m ≡ channels_left kind m
 other_left (File node offset flags) m goes other = none_left_by (File node offset flags) m goes (λ q. (refl, refl))
 other_left (Directory node flags) m goes other = none_left_by (Directory node flags) m goes (λ q. (refl, refl))
-other_left (End reads writes flags) m goes other = absurd (other reads writes flags refl)
+other_left (End reads writes flags form) m goes other = absurd (other reads writes flags form refl)
 other_left (Terminal which flags) m goes other = none_left_by (Terminal which flags) m goes (λ q. (refl, refl))
 other_left (Process p object) m goes other = none_left_by (Process p object) m goes (λ q. (refl, refl))
 
@@ -152,31 +154,31 @@ one_after_other reader writer (Some x) =
       | false ↦ λ on. ap (λ y. kept_channel (Some y)) (two_steps reader writer x)
     ] refl
 
-reader_only : (q : ℕ) (reads writes : Option ℕ) (flags : ℕ) → is_reader q (Some (End reads None 0)) ≡ is_reader q (Some (End reads writes flags))
-reader_only q None writes flags = refl
-reader_only q (Some c) writes flags = refl
+reader_only : (q : ℕ) (reads writes : Option ℕ) (flags : ℕ) (form : ChanKind) → is_reader q (Some (End reads None 0 chan_kind.Stream)) ≡ is_reader q (Some (End reads writes flags form))
+reader_only q None writes flags form = refl
+reader_only q (Some c) writes flags form = refl
 
-writer_only : (q : ℕ) (reads writes : Option ℕ) (flags : ℕ) → is_writer q (Some (End None writes 0)) ≡ is_writer q (Some (End reads writes flags))
-writer_only q reads None flags = refl
-writer_only q reads (Some c) flags = refl
+writer_only : (q : ℕ) (reads writes : Option ℕ) (flags : ℕ) (form : ChanKind) → is_writer q (Some (End None writes 0 chan_kind.Stream)) ≡ is_writer q (Some (End reads writes flags form))
+writer_only q reads None flags form = refl
+writer_only q reads (Some c) flags form = refl
 
-no_writer : (q : ℕ) (reads : Option ℕ) → is_writer q (Some (End reads None 0)) ≡ false
+no_writer : (q : ℕ) (reads : Option ℕ) → is_writer q (Some (End reads None 0 chan_kind.Stream)) ≡ false
 no_writer q reads = refl
 
-no_reader : (q : ℕ) (writes : Option ℕ) → is_reader q (Some (End None writes 0)) ≡ false
+no_reader : (q : ℕ) (writes : Option ℕ) → is_reader q (Some (End None writes 0 chan_kind.Stream)) ≡ false
 no_reader q writes = refl
 
-pub both_left : (reads writes : Option ℕ) (flags : ℕ) (m : Channels)
-    → channels_left (end_at Writer writes) (channels_left (end_at Reader reads) m) ≡ channels_left (End reads writes flags) m
-both_left reads writes flags m = same_numbers _ _ (λ q.
-    left_at_key (End None writes 0) (channels_left (End reads None 0) m) q
-    ∙ ap (λ x. kept_channel (option_map (channel_left (is_reader q (Some (End None writes 0))) (is_writer q (Some (End None writes 0)))) x)) (left_at_key (End reads None 0) m q)
-    ∙ ap (λ b. kept_channel (option_map (channel_left b (is_writer q (Some (End None writes 0)))) (kept_channel (option_map (channel_left (is_reader q (Some (End reads None 0))) (is_writer q (Some (End reads None 0)))) (get m q))))) (no_reader q writes)
-    ∙ ap (λ b. kept_channel (option_map (channel_left false (is_writer q (Some (End None writes 0)))) (kept_channel (option_map (channel_left (is_reader q (Some (End reads None 0))) b) (get m q))))) (no_writer q reads)
-    ∙ one_after_other (is_reader q (Some (End reads None 0))) (is_writer q (Some (End None writes 0))) (get m q)
-    ∙ ap (λ b. kept_channel (option_map (channel_left b (is_writer q (Some (End None writes 0)))) (get m q))) (reader_only q reads writes flags)
-    ∙ ap (λ b. kept_channel (option_map (channel_left (is_reader q (Some (End reads writes flags))) b) (get m q))) (writer_only q reads writes flags)
-    ∙ sym (left_at_key (End reads writes flags) m q))
+pub both_left : (reads writes : Option ℕ) (flags : ℕ) (form : ChanKind) (m : Channels)
+    → channels_left (end_at Writer writes) (channels_left (end_at Reader reads) m) ≡ channels_left (End reads writes flags form) m
+both_left reads writes flags form m = same_numbers _ _ (λ q.
+    left_at_key (End None writes 0 chan_kind.Stream) (channels_left (End reads None 0 chan_kind.Stream) m) q
+    ∙ ap (λ x. kept_channel (option_map (channel_left (is_reader q (Some (End None writes 0 chan_kind.Stream))) (is_writer q (Some (End None writes 0 chan_kind.Stream)))) x)) (left_at_key (End reads None 0 chan_kind.Stream) m q)
+    ∙ ap (λ b. kept_channel (option_map (channel_left b (is_writer q (Some (End None writes 0 chan_kind.Stream)))) (kept_channel (option_map (channel_left (is_reader q (Some (End reads None 0 chan_kind.Stream))) (is_writer q (Some (End reads None 0 chan_kind.Stream)))) (get m q))))) (no_reader q writes)
+    ∙ ap (λ b. kept_channel (option_map (channel_left false (is_writer q (Some (End None writes 0 chan_kind.Stream)))) (kept_channel (option_map (channel_left (is_reader q (Some (End reads None 0 chan_kind.Stream))) b) (get m q))))) (no_writer q reads)
+    ∙ one_after_other (is_reader q (Some (End reads None 0 chan_kind.Stream))) (is_writer q (Some (End None writes 0 chan_kind.Stream))) (get m q)
+    ∙ ap (λ b. kept_channel (option_map (channel_left b (is_writer q (Some (End None writes 0 chan_kind.Stream)))) (get m q))) (reader_only q reads writes flags form)
+    ∙ ap (λ b. kept_channel (option_map (channel_left (is_reader q (Some (End reads writes flags form))) b) (get m q))) (writer_only q reads writes flags form)
+    ∙ sym (left_at_key (End reads writes flags form) m q))
 
 -- ---- carriers
 

@@ -5,6 +5,7 @@ use Rattle.std.proofs.Common.{◌≡◌, ℕ, ◌==◌, ◌++◌, not, true, fal
 use Rattle.std.specs.Prelude.{bit_and}
 use Rattle.std.specs.FinMap.{get, insert}
 use Rattle.abi_base.specs.declared.errno.Errno.TheVariants.{Mfile}
+use Rattle.abi_types.specs.declared.chan_kind.ChanKind.{ChanKind}
 use Rattle.abi_types.specs.declared.open_kind.OpenKind.{OpenKind}
 use Rattle.abi_types.specs.declared.open_kind.OpenKind.TheVariants.{End}
 use Rattle.abi_types.specs.declared.reply.Answer.{Answer}
@@ -22,10 +23,10 @@ use Rattle.kernel_model.specs.State.{Table}
 no_peek : (flags : ℕ) → bit_and flags 4 ≡ 0 → peeks flags ≡ false
 no_peek flags none = ap (λ n. not (n == 0)) none
 
-pub receive_takes : (p : ℕ) (table : Table) (channels : Channels) (kind : OpenKind) (c w mode n room flags : ℕ) (channel : Channel)
-    → kind ≡ End (Some c) (Some w) mode → get channels c ≡ Some channel → must_wait_by flags n channel ≡ false → bit_and flags 4 ≡ 0
+pub receive_takes : (p : ℕ) (table : Table) (channels : Channels) (kind : OpenKind) (c w mode n room flags : ℕ) (form : ChanKind) (channel : Channel)
+    → kind ≡ End (Some c) (Some w) mode form → get channels c ≡ Some channel → must_wait_by flags n channel ≡ false → bit_and flags 4 ≡ 0
     → receive_open p table (seen_in channels) n room flags (Some kind) ≡ received p table room c (pull n channel)
-receive_takes p table channels kind c w mode n room flags channel is there goes none =
+receive_takes p table channels kind c w mode n room flags form channel is there goes none =
     ap (λ (k : OpenKind). receive_open p table (seen_in channels) n room flags (Some k)) is
     ∙ ap (receive_from p table n room flags (is_nonblocking mode) c) there
     ∙ ap (λ b. received_if b (is_nonblocking mode) (peeks flags) p table room c (pull n channel)) goes

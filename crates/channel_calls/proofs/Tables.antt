@@ -31,9 +31,9 @@ on_keeps reply v flags (b ∷ bytes) carried c table = to_keeps reply (is_nonblo
 
 pub send_keeps : (v : View) (bytes : List ℕ) (carried : List Descriptor) (kind : OpenKind) (table : Table)
     → table ≡ table_after (send_open v bytes carried (Some kind)).updates table
-send_keeps v bytes carried (End (Some reads) (Some writes) flags) table = on_keeps sent_reply v flags bytes carried writes table
-send_keeps v bytes carried (End (Some reads) None flags) table = refl
-send_keeps v bytes carried (End None writes flags) table = refl
+send_keeps v bytes carried (End (Some reads) (Some writes) flags form) table = on_keeps sent_reply v flags bytes carried writes table
+send_keeps v bytes carried (End (Some reads) None flags form) table = refl
+send_keeps v bytes carried (End None writes flags form) table = refl
 send_keeps v bytes carried (File node offset flags) table = refl
 send_keeps v bytes carried (Directory node flags) table = refl
 send_keeps v bytes carried (Terminal which flags) table = refl

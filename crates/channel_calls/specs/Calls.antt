@@ -41,8 +41,8 @@ table_after (_ ∷ updates) table = table_after updates table
 
 -- what fd_read and fd_write come to on an end
 abbrev pub end_outcome : Channels → OpenKind → Call → Outcome
-end_outcome channels (End reads writes flags) (call.FdRead fd n) = read_end (seen_in channels) n flags reads
-end_outcome channels (End reads writes flags) (call.FdWrite fd bytes) = send_on written_reply (seen_in channels) flags bytes [] writes
+end_outcome channels (End reads writes flags form) (call.FdRead fd n) = read_end (seen_in channels) n flags reads
+end_outcome channels (End reads writes flags form) (call.FdWrite fd bytes) = send_on written_reply (seen_in channels) flags bytes [] writes
 end_outcome channels kind _ = replies (refused Badf)
 
 -- what calls on sockets come to, for process p

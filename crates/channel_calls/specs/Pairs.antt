@@ -3,6 +3,7 @@ use Rattle.std.specs.Prelude.{◌≡◌, ◌≢◌, ℕ, ◌+◌, ◌<◌, None,
 use Rattle.std.specs.Ordering.{nat_cmp}
 use Rattle.std.specs.FinMap.{FinMap, get, insert}
 use Rattle.abi_base.specs.declared.limits.TheConstants.{MOST_DESCRIPTORS}
+use Rattle.abi_types.specs.declared.chan_kind.ChanKind.TheVariants as chan_kind
 use Rattle.abi_types.specs.declared.open_kind.OpenKind.{OpenKind}
 use Rattle.abi_types.specs.declared.open_kind.OpenKind.TheVariants.{End}
 use Rattle.channel_calls.specs.Calls.{Channels}
@@ -23,14 +24,14 @@ model_of Stream = model.pair
 abbrev pub end_one : Pair → OpenKind
 end_one pair = by pair.kind pair.first where
   by : PairKind → ℕ → OpenKind
-  by Fifo first = End (Some first) None 0
-  by Stream first = End (Some first) (Some (first + 1)) 0
+  by Fifo first = End (Some first) None 0 chan_kind.Stream
+  by Stream first = End (Some first) (Some (first + 1)) 0 chan_kind.Stream
 
 abbrev pub end_two : Pair → OpenKind
 end_two pair = by pair.kind pair.first where
   by : PairKind → ℕ → OpenKind
-  by Fifo first = End None (Some first) 0
-  by Stream first = End (Some (first + 1)) (Some first) 0
+  by Fifo first = End None (Some first) 0 chan_kind.Stream
+  by Stream first = End (Some (first + 1)) (Some first) 0 chan_kind.Stream
 
 -- the numbers of the two ends
 abbrev pub number_one : Pair → ℕ

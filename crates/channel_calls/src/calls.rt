@@ -39,6 +39,7 @@ pub fn on_end(
         reads,
         writes,
         flags,
+        ..
     } = kind
     else {
         return Ok(Answer::Reply(refused(Errno::Badf)));
@@ -117,6 +118,7 @@ fn send(
         reads: Some(_),
         writes: Some(writes),
         flags,
+        ..
     } = kind
     else {
         return Ok(Answer::Reply(refused(Errno::Notsock)));

@@ -13,7 +13,7 @@ ghost use Rattle.kernel_model.specs.Release.{count_in};
 ghost use Rattle.maps.specs.Maps.{number};
 
 use crate::kept::Channels;
-use abi_types::{Descriptor, ObjId, OpenKind, OpenType, Rights};
+use abi_types::{ChanKind, Descriptor, ObjId, OpenKind, OpenType, Rights};
 use channels::Channel;
 use fd_table::FdTable;
 use object_store::Objects;
@@ -77,6 +77,7 @@ fn end_one(pair: &Pair) -> End
                 reads,
                 writes: None,
                 flags: 0,
+                kind: ChanKind::Stream,
             };
             end_of(pair.one, ObjId(first + 1), kind, OpenType::Reading)
         }
@@ -85,6 +86,7 @@ fn end_one(pair: &Pair) -> End
                 reads,
                 writes: Some(ObjId(first + 1)),
                 flags: 0,
+                kind: ChanKind::Stream,
             };
             end_of(pair.one, ObjId(first + 2), kind, OpenType::Stream)
         }
@@ -104,6 +106,7 @@ fn end_two(pair: &Pair) -> End
                 reads: None,
                 writes,
                 flags: 0,
+                kind: ChanKind::Stream,
             };
             end_of(pair.two, ObjId(first + 2), kind, OpenType::Writing)
         }
@@ -112,6 +115,7 @@ fn end_two(pair: &Pair) -> End
                 reads: Some(ObjId(first + 1)),
                 writes,
                 flags: 0,
+                kind: ChanKind::Stream,
             };
             end_of(pair.two, ObjId(first + 3), kind, OpenType::Stream)
         }

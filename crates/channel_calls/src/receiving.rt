@@ -23,7 +23,7 @@ use abi_base::MOST_DESCRIPTORS;
 use abi_types::flags::{
     FDFLAG_NONBLOCK, SOCK_RECV_FDS_TRUNCATED, SOCK_RECV_PEEK, SOCK_RECV_WAITALL,
 };
-use abi_types::{Answer, Bytes, Errno, FdList, ObjId, OpenKind, Payload, WordWrites};
+use abi_types::{Answer, ChanKind, Bytes, Errno, FdList, ObjId, OpenKind, Payload, WordWrites};
 use channels::Channel;
 use fd_table::FdTable;
 use object_store::Objects;
@@ -102,11 +102,12 @@ pub(crate) struct Socket {
     pub(crate) reads: ObjId,
     pub(crate) writes: ObjId,
     pub(crate) flags: u16,
+    pub(crate) kind: ChanKind,
 }
 
 /// The open, if it is such an end.
 pub(crate) fn socket_of(kind: &OpenKind) -> Option<Socket>
-    ensures some { IfSome result (λ socket. kind.now ≡ End (Some socket.reads) (Some socket.writes) socket.flags) }
+    ensures some { IfSome result (λ socket. kind.now ≡ End (Some socket.reads) (Some socket.writes) socket.flags socket.kind) }
     ensures none { IsNone result → (p : ℕ) (table : Table) (v : View) (n room flags : ℕ) → receive_open p table v n room flags (Some kind.now) ≡ replies (refused Notsock) }
 {
     match kind {
@@ -114,10 +115,12 @@ pub(crate) fn socket_of(kind: &OpenKind) -> Option<Socket>
             reads: Some(reads),
             writes: Some(writes),
             flags,
+            kind,
         } => Some(Socket {
             reads: *reads,
             writes: *writes,
             flags: *flags,
+            kind: *kind,
         }),
         _ => None,
     }

@@ -22,6 +22,7 @@ pub fn end_waits(channels: &Channels, kind: &OpenKind, call: OffsetCall<'_>) -> 
         reads,
         writes,
         flags,
+        ..
     } = kind
     else {
         return false;
@@ -54,6 +55,7 @@ pub fn socket_waits(
         reads: Some(reads),
         writes: Some(writes),
         flags: mode,
+        ..
     } = kind
     else {
         return false;

@@ -8,6 +8,7 @@ use Rattle.std.proofs.Common.{◌≡◌, ℕ, ◌+◌, ◌-◌, ◌^◌, ◌<◌
 use Rattle.std.proofs.lemmas.List.{length-append, length-drop, length-take, length-take-le, length_push, take_all, take_min}
 use Rattle.std.proofs.lemmas.List.Elements.{All-push}
 use Rattle.circular_buffer.specs.Buffer.{Buffer, buffer}
+use Rattle.abi_types.specs.declared.chan_kind.ChanKind.{ChanKind}
 use Rattle.abi_types.specs.declared.descriptor.Descriptor.{Descriptor}
 use Rattle.channels.specs.declared.pieces.Piece.{Piece}
 use Rattle.channels.specs.declared.side.SideState.{SideState}
@@ -18,10 +19,10 @@ use Rattle.channels.proofs.Cuts.{bytes_of-cut, carried_of-cut, length-cut, lengt
 use Rattle.channels.proofs.Pulls.{IsRead, read_laid, come_pieces, come-cut, come_front}
 use Rattle.channels.proofs.Takes.{IsTaken, may_take, pushes}
 
-module _ (left drawn : ℕ) (pieces : List Piece) (bytes : List ℕ) (fds : List Descriptor) (reader writer : SideState) (bytes_room fds_room : ℕ)
+module _ (kind : ChanKind) (left drawn : ℕ) (pieces : List Piece) (bytes : List ℕ) (fds : List Descriptor) (reader writer : SideState) (bytes_room fds_room : ℕ)
     (kept : IsKept left drawn pieces bytes bytes_room fds fds_room reader) where
   abbrev now : Channel
-  now = seen left drawn pieces bytes fds reader writer
+  now = seen kind left drawn pieces bytes fds reader writer
 
   all_bytes : bytes_of now.waiting ≡ bytes
   all_bytes = bytes_of-cut (pieces_left drawn pieces) bytes fds kept.laid.bytes_are
@@ -117,7 +118,7 @@ module _ (left drawn : ℕ) (pieces : List Piece) (bytes : List ℕ) (fds : List
           ap fds_of pieces_more_left
           ∙ omega (arith, fds_of-push (pieces_left drawn pieces) (piece_of more mores), kept.laid.fds_are, length-append fds mores)
 
-      seen_push : seen left drawn pieces_more (bytes ++ more) (fds ++ mores) reader writer ≡ pushed more mores old
+      seen_push : seen kind left drawn pieces_more (bytes ++ more) (fds ++ mores) reader writer ≡ pushed more mores old
       seen_push =
           ap (λ (sends : List Send). let channel : Channel = record now { waiting = sends } in channel)
           (ap (λ (ps : List Piece). cut ps (bytes ++ more) (fds ++ mores)) pieces_more_left
@@ -184,13 +185,13 @@ module _ (left drawn : ℕ) (pieces : List Piece) (bytes : List ℕ) (fds : List
           let carried_fit : length fds + length carried ≤ most_carried = omega (arith, takes.fit, carried_count) in
           rw (pieces_new_is, bytes_new_is, fds_new_is) (kept_push more carried byte bytes_fit carried_fit there few)
 
-      pub is_pushed : push given carried old ≡ sends count (seen left drawn pieces_new bytes_new.items fds_new.items reader writer)
+      pub is_pushed : push given carried old ≡ sends count (seen kind left drawn pieces_new bytes_new.items fds_new.items reader writer)
       is_pushed =
           let all : min (length given) (room old) ≡ count = omega (arith, count_most) in
-          let new_is : seen left drawn pieces_new bytes_new.items fds_new.items reader writer ≡ pushed more carried old =
-          ap (λ (ps : List Piece). seen left drawn ps bytes_new.items fds_new.items reader writer) pieces_new_is
-          ∙ ap (λ (b : Buffer ℕ). seen left drawn (pieces_more more carried) b.items fds_new.items reader writer) bytes_new_is
-          ∙ ap (λ (f : Buffer Descriptor). seen left drawn (pieces_more more carried) (bytes ++ more) f.items reader writer) fds_new_is
+          let new_is : seen kind left drawn pieces_new bytes_new.items fds_new.items reader writer ≡ pushed more carried old =
+          ap (λ (ps : List Piece). seen kind left drawn ps bytes_new.items fds_new.items reader writer) pieces_new_is
+          ∙ ap (λ (b : Buffer ℕ). seen kind left drawn (pieces_more more carried) b.items fds_new.items reader writer) bytes_new_is
+          ∙ ap (λ (f : Buffer Descriptor). seen kind left drawn (pieces_more more carried) (bytes ++ more) f.items reader writer) fds_new_is
           ∙ seen_push more carried in
           pushes given carried old lives fits ∙ (λ i. sends (all i) (sym new_is i))
 
@@ -230,7 +231,7 @@ module _ (left drawn : ℕ) (pieces : List Piece) (bytes : List ℕ) (fds : List
               count = sum;
             })
 
-        seen_pulled : seen (left + (before - behind)) drawn_new pieces_new bytes_new.items fds_new.items reader writer ≡ drawn_by n now
+        seen_pulled : seen kind (left + (before - behind)) drawn_new pieces_new bytes_new.items fds_new.items reader writer ≡ drawn_by n now
         seen_pulled =
             let waits : cut (pieces_left drawn_new pieces_new) bytes_new.items fds_new.items ≡ sends_after n now.waiting =
             rw (drawn_is, pieces_is, bytes_is, fds_is) read.waits in
@@ -240,7 +241,7 @@ module _ (left drawn : ℕ) (pieces : List Piece) (bytes : List ℕ) (fds : List
             let gone : left + (before - behind) ≡ left + sends_gone n now.waiting =
             omega (arith, before_is, behind_is, size, all_sends, gone_after n now.waiting) in
             let some_drawn = drawn_is ∙ read.drawn_is in
-            λ i. record { left = gone i; waiting = waits i; drawn = some_drawn i; reader = reader; writer = writer }
+            λ i. record { kind = kind; left = gone i; waiting = waits i; drawn = some_drawn i; reader = reader; writer = writer }
 
         came : take m fds ≡ coming n old.waiting
         came =
@@ -251,9 +252,9 @@ module _ (left drawn : ℕ) (pieces : List Piece) (bytes : List ℕ) (fds : List
         pub is_pulled : (out out_new : List ℕ) (buffer_old buffer_new : List Descriptor) → asked ≡ length out
             → IsFilled (take n bytes) out out_new → IsFilled (take m fds) buffer_old buffer_new
             → IsPulled n m out out_new buffer_old buffer_new (pull (length out) old)
-            (seen (left + (before - behind)) drawn_new pieces_new bytes_new.items fds_new.items reader writer)
+            (seen kind (left + (before - behind)) drawn_new pieces_new bytes_new.items fds_new.items reader writer)
         is_pulled out out_new buffer_old buffer_new asked_is filled filled_fds =
-            let new : Channel = seen (left + (before - behind)) drawn_new pieces_new bytes_new.items fds_new.items reader writer in
+            let new : Channel = seen kind (left + (before - behind)) drawn_new pieces_new bytes_new.items fds_new.items reader writer in
             let all : n ≡ min (length out) (reach old.waiting) = n_is ∙ ap (λ (k : ℕ). min k (reach old.waiting)) asked_is in
             subst (λ (k : ℕ). IsPulled n m out out_new buffer_old buffer_new (taken k old) new) all
             (record {
@@ -267,11 +268,11 @@ module _ (left drawn : ℕ) (pieces : List Piece) (bytes : List ℕ) (fds : List
     -- ---- the end of the reader
 
     pub seen_shut : (to : SideState) (gone : ℕ) (pieces_new : List Piece) (bytes_new : List ℕ) (fds_new : List Descriptor)
-        → gone ≡ length pieces → pieces_new ≡ [] → seen (left + gone) 0 pieces_new bytes_new fds_new to writer ≡ emptied to old
+        → gone ≡ length pieces → pieces_new ≡ [] → seen kind (left + gone) 0 pieces_new bytes_new fds_new to writer ≡ emptied to old
     seen_shut to gone pieces_new bytes_new fds_new gone_is pieces_is =
         let waits : cut (pieces_left 0 pieces_new) bytes_new fds_new ≡ [] = ap (λ (ps : List Piece). cut (pieces_left 0 ps) bytes_new fds_new) pieces_is in
         let all : left + gone ≡ left + length now.waiting = ap (λ (k : ℕ). left + k) (gone_is ∙ sym all_sends) in
-        (λ i. record { left = all i; waiting = waits i; drawn = 0; reader = to; writer = writer }) ∙ ap (emptied to) is
+        (λ i. record { kind = kind; left = all i; waiting = waits i; drawn = 0; reader = to; writer = writer }) ∙ ap (emptied to) is
 
     pub all_released : (count : ℕ) (out out_new : List Descriptor) → count ≡ length fds → IsFilled (take count fds) out out_new
         → IsFilled (carried_of old.waiting) out out_new

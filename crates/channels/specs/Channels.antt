@@ -7,6 +7,9 @@
 use Rattle.std.specs.Prelude.{◌≡◌, ◌⊎◌, ℕ, zero, suc, ◌+◌, ◌-◌, ◌<◌, ◌≤◌, ◌==◌, ◌&&◌, ◌||◌, min, nat_lt, nat_le, not, Bool, true, false, List, [], ◌∷◌, ◌++◌, length, take, drop, if◌then◌else◌, refl}
 use Rattle.std.specs.Coded.{Coded, code_by, coded_ℕ, coded×, coded_list}
 use Rattle.std.specs.List.{AllByRecursion}
+use Rattle.abi_types.specs.declared.chan_kind.ChanKind.{ChanKind}
+use Rattle.abi_types.specs.declared.chan_kind.ChanKind.TheVariants as chan_kind
+use Rattle.abi_types.specs.contracts.chan_kind.ChanKind as chan_kind_row
 use Rattle.abi_types.specs.declared.descriptor.Descriptor.{Descriptor}
 use Rattle.abi_types.specs.contracts.descriptor.Descriptor as descriptor
 use Rattle.channels.specs.declared.side.Side.{Side}
@@ -24,9 +27,10 @@ pub record Send : Type 0 where
   pub bytes : List ℕ
   pub carried : List Descriptor
 
--- how many sends have left the channel; those that wait, the first of them first; how many bytes of that one were drawn; and the two
--- sides
+-- the channel's kind; how many sends have left it; those that wait, the first of them first; how many bytes of that one were drawn; and the
+-- two sides
 pub record Channel : Type 0 where
+  pub kind : ChanKind
   pub left : ℕ
   pub waiting : List Send
   pub drawn : ℕ
@@ -35,7 +39,7 @@ pub record Channel : Type 0 where
 
 -- a channel to which nothing was sent
 abbrev pub new_channel : Channel
-new_channel = record { left = 0; waiting = []; drawn = 0; reader = Open; writer = Open }
+new_channel = record { kind = chan_kind.Stream; left = 0; waiting = []; drawn = 0; reader = Open; writer = Open }
 
 -- all bytes of sends, in order; and all descriptors that they carry
 abbrev pub bytes_of : List Send → List ℕ
@@ -295,7 +299,8 @@ send_code =
 
 abbrev pub channel_code : Coded Channel
 channel_code =
-    code_by (ℕ × (List Send × (ℕ × (SideState × SideState))))
-    (coded× coded_ℕ (coded× (coded_list send_code) (coded× coded_ℕ (coded× side_state.the_row.coded side_state.the_row.coded))))
-    (λ c. (c.left, (c.waiting, (c.drawn, (c.reader, c.writer)))))
-    (λ f. record { left = f.0; waiting = f.1.0; drawn = f.1.1.0; reader = f.1.1.1.0; writer = f.1.1.1.1 }) (λ _. refl)
+    code_by (ChanKind × (ℕ × (List Send × (ℕ × (SideState × SideState)))))
+    (coded× chan_kind_row.the_row.coded
+    (coded× coded_ℕ (coded× (coded_list send_code) (coded× coded_ℕ (coded× side_state.the_row.coded side_state.the_row.coded)))))
+    (λ c. (c.kind, (c.left, (c.waiting, (c.drawn, (c.reader, c.writer))))))
+    (λ f. record { kind = f.0; left = f.1.0; waiting = f.1.1.0; drawn = f.1.1.1.0; reader = f.1.1.1.1.0; writer = f.1.1.1.1.1 }) (λ _. refl)

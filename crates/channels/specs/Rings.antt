@@ -1,6 +1,7 @@
 -- How the sends of a channel lie in its rings: the bytes of all in one, the descriptors of all in the other, and beside them a piece for
 -- each send, which has its lengths as it was sent. Of the first send some bytes were drawn; a ring has no longer what was drawn.
 use Rattle.std.specs.Prelude.{◌≡◌, ℕ, zero, suc, ◌+◌, ◌-◌, ◌^◌, ◌<◌, ◌≤◌, false, if◌then◌else◌, nat_lt, eqb, List, [], ◌∷◌, length, take, drop, All}
+use Rattle.abi_types.specs.declared.chan_kind.ChanKind.{ChanKind}
 use Rattle.abi_types.specs.declared.descriptor.Descriptor.{Descriptor}
 use Rattle.channels.specs.declared.pieces.Piece.{Piece}
 use Rattle.channels.specs.declared.side.SideState.{SideState}
@@ -25,8 +26,9 @@ cut (piece ∷ pieces) bytes fds =
     (record { bytes = take piece.bytes bytes; carried = take piece.fds fds }) ∷ cut pieces (drop piece.bytes bytes) (drop piece.fds fds)
 
 -- what contracts see
-abbrev pub seen : ℕ → ℕ → List Piece → List ℕ → List Descriptor → SideState → SideState → Channel
-seen left drawn pieces bytes fds reader writer = record {
+abbrev pub seen : ChanKind → ℕ → ℕ → List Piece → List ℕ → List Descriptor → SideState → SideState → Channel
+seen kind left drawn pieces bytes fds reader writer = record {
+  kind = kind;
   left = left;
   waiting = cut (pieces_left drawn pieces) bytes fds;
   drawn = drawn;

@@ -7,7 +7,7 @@ use crate::faults::{PullFault, PushFault};
 use crate::pieces::{Piece, draw_in, reach_in};
 use crate::rings::{copy_first, move_first};
 use crate::side::{Side, SideState};
-use abi_types::Descriptor;
+use abi_types::{ChanKind, Descriptor};
 use circular_buffer::HeapCircularBuffer;
 use std::alloc::{AllocError, Global};
 use std::collections::VecDeque;
@@ -37,6 +37,7 @@ pub struct Pulled {
 /// channel, so that a write takes memory for the lengths alone.
 #[derive(Drop)]
 pub struct Channel {
+    kind: ChanKind,
     bytes: HeapCircularBuffer<u8>,
     fds: HeapCircularBuffer<Descriptor>,
     pieces: VecDeque<Piece, Global>,
@@ -60,7 +61,7 @@ impl Model for Channel {
 
     ghost use Rattle.channels.specs.Rings.{IsKept, seen};
 
-    ghost view = { λ c. seen c.left c.drawn c.pieces.items c.bytes.items c.fds.items c.reader c.writer };
+    ghost view = { λ c. seen c.kind c.left c.drawn c.pieces.items c.bytes.items c.fds.items c.reader c.writer };
 
     ghost invariant = { λ c. IsKept c.left c.drawn c.pieces.items c.bytes.items c.bytes.capacity c.fds.items c.fds.capacity c.reader };
 }
@@ -71,6 +72,7 @@ impl Channel {
         ensures { IfOk result (λ channel. channel ≡ new_channel) }
     {
         Ok(Channel {
+            kind: ChanKind::Stream,
             bytes: HeapCircularBuffer::with_capacity(alloc, MOST_BYTES)?,
             fds: HeapCircularBuffer::with_capacity(alloc, MOST_CARRIED)?,
             pieces: VecDeque::new(alloc),
@@ -79,6 +81,13 @@ impl Channel {
             reader: SideState::Open,
             writer: SideState::Open,
         })
+    }
+
+    /// Its kind.
+    pub fn kind(&self) -> ChanKind
+        ensures { result ≡ self.now.kind }
+    {
+        self.kind
     }
 
     /// How many bytes wait.

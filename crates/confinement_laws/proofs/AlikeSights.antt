@@ -71,7 +71,7 @@ module _ (Within : ℕ → Type 0) where
         only_kept (at_node node) q (leads.file p k table d node offset flags own here is) seen
     behind_kept p k table d (Some (Directory node flags)) q own here is seen =
         nodes_kept (below (tree_of S) node) q (λ n under. leads.directory p k table d node flags n own here is under) seen
-    behind_kept p k table d (Some (End reads writes flags)) q own here is seen =
+    behind_kept p k table d (Some (End reads writes flags form)) q own here is seen =
         elim (either_true (has_part (channel_part reads) q) (has_part (channel_part writes) q)
         (sym (has_of_both (channel_part reads) (channel_part writes) q) ∙ seen)) [
           | inl one ↦ channel_kept reads q one

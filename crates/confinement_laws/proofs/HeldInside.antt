@@ -69,7 +69,7 @@ module _ (scope : Scope) (launch : Launch) where
   same_inside : (a b : OpenKind) → IsOfSame a b → IsInside scope launch a → IsInside scope launch b
   same_inside (File n offset flags) (File m other_offset other_flags) same inside = subst (λ k. Unled scope launch k → ⊥) same inside
   same_inside (Directory n flags) (Directory m other_flags) same inside = subst (λ k. Unled scope launch k → ⊥) same inside
-  same_inside (End reads writes flags) (End other_reads other_writes other_flags) same inside = tt
+  same_inside (End reads writes flags form) (End other_reads other_writes other_flags other_form) same inside = tt
   same_inside (Terminal which flags) (Terminal other other_flags) same inside = tt
   same_inside (Process p object) (Process q other) same inside = tt
   same_inside a b same inside = absurd same
@@ -77,7 +77,7 @@ module _ (scope : Scope) (launch : Launch) where
   new_inside : (kind : OpenKind) → is_new kind ≡ true → IsInside scope launch kind
   new_inside (File n offset flags) new = absurd (not_true new)
   new_inside (Directory n flags) new = absurd (not_true new)
-  new_inside (End reads writes flags) new = tt
+  new_inside (End reads writes flags form) new = tt
   new_inside (Terminal which flags) new = tt
   new_inside (Process p object) new = tt
 
@@ -110,7 +110,7 @@ module _ (scope : Scope) (launch : Launch) where
   opened_inside t u start (File n offset flags) kept inside (inl under) = below_inside scope launch t kept start inside n under
   opened_inside t u start (File n offset flags) kept inside (inr new) = new_file t u start n kept new
   opened_inside t u start (Directory n flags) kept inside under = below_inside scope launch t kept start inside n under
-  opened_inside t u start (End reads writes flags) kept inside leads = absurd leads
+  opened_inside t u start (End reads writes flags form) kept inside leads = absurd leads
   opened_inside t u start (Terminal which flags) kept inside leads = absurd leads
   opened_inside t u start (Process p object) kept inside leads = absurd leads
 

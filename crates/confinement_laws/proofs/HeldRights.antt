@@ -30,9 +30,9 @@ stream_is_word which = elim (which == 0) as (λ b. cond b 0x1008000a 0x10080048 
 fits_is_word : (kind : OpenKind) → fits kind < 2 ^ 64
 fits_is_word (File node offset flags) = omega arith
 fits_is_word (Directory node flags) = omega arith
-fits_is_word (End (Some reads) (Some writes) flags) = omega arith
-fits_is_word (End (Some reads) None flags) = omega arith
-fits_is_word (End None writes flags) = omega arith
+fits_is_word (End (Some reads) (Some writes) flags form) = omega arith
+fits_is_word (End (Some reads) None flags form) = omega arith
+fits_is_word (End None writes flags form) = omega arith
 fits_is_word (Terminal which flags) = stream_is_word which
 fits_is_word (Process p object) = omega arith
 

@@ -395,7 +395,7 @@ written_apart None d = refl
 written_apart (Some (Terminal which flags)) d = refl
 written_apart (Some (File node offset flags)) d = refl
 written_apart (Some (Directory node flags)) d = refl
-written_apart (Some (End reads writes flags)) d = (channel_beside writes d).1
+written_apart (Some (End reads writes flags form)) d = (channel_beside writes d).1
 written_apart (Some (Process p object)) d = refl
 
 node_apart : (t : Tree) (kind : Option OpenKind) (d : ℕ) → has_part (node_part t kind) (at_names d) ≡ false
@@ -403,7 +403,7 @@ node_apart t None d = refl
 node_apart t (Some (Terminal which flags)) d = refl
 node_apart t (Some (File node offset flags)) d = refl
 node_apart t (Some (Directory node flags)) d = refl
-node_apart t (Some (End reads writes flags)) d = refl
+node_apart t (Some (End reads writes flags form)) d = refl
 node_apart t (Some (Process p object)) d = refl
 
 found_apart : (w : Walked) (d : ℕ) → has_part (found_part w) (at_names d) ≡ false

@@ -90,7 +90,7 @@ module _ (S U : State) where
       ap node_parts (below_decided (tree_of S) (tree_of U) node
       (λ n found. (same.agree (at_node n) (under n found).0, same.agree (at_names n) (under n found).1))
       (λ d name n found. same.named d name n (under d found).1))
-  behind_decided (Some (End reads writes flags)) same = refl
+  behind_decided (Some (End reads writes flags form)) same = refl
   behind_decided (Some (Terminal which flags)) same = refl
   behind_decided (Some (Process p object)) same = refl
 

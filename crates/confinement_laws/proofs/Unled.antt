@@ -123,7 +123,7 @@ module _ (scope : Scope) (launch : Launch) where
   kind_inside S kept (File m offset flags) inside n part of h = file_inside m n part of inside h
   kind_inside S kept (Directory m flags) inside n part of h =
       below_inside (tree_of S) kept m inside n (part_among n part (below (tree_of S) m) of h)
-  kind_inside S kept (End reads writes flags) inside n part of h = absurd (no_channel reads writes n part of h)
+  kind_inside S kept (End reads writes flags form) inside n part of h = absurd (no_channel reads writes n part of h)
   kind_inside S kept (Terminal which flags) inside n part of h = absurd (no_other (at_term which) n part of (λ q. refl) (λ q. refl) h)
   kind_inside S kept (Process p object) inside n part of h = absurd (no_other (at_status p) n part of (λ q. refl) (λ q. refl) h)
 

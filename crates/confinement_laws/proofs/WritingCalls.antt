@@ -99,7 +99,7 @@ stream_beside None n = (refl, refl)
 stream_beside (Some (Terminal which flags)) n = (refl, refl)
 stream_beside (Some (File node offset flags)) n = (refl, refl)
 stream_beside (Some (Directory node flags)) n = (refl, refl)
-stream_beside (Some (End reads writes flags)) n = channel_beside reads n
+stream_beside (Some (End reads writes flags form)) n = channel_beside reads n
 stream_beside (Some (Process p object)) n = (refl, refl)
 
 pub sent_beside : (kind : Option OpenKind) → HasNoTree (sent_part kind)
@@ -107,7 +107,7 @@ sent_beside None n = (refl, refl)
 sent_beside (Some (Terminal which flags)) n = (refl, refl)
 sent_beside (Some (File node offset flags)) n = (refl, refl)
 sent_beside (Some (Directory node flags)) n = (refl, refl)
-sent_beside (Some (End reads writes flags)) n = channel_beside writes n
+sent_beside (Some (End reads writes flags form)) n = channel_beside writes n
 sent_beside (Some (Process p object)) n = (refl, refl)
 
 pub received_beside : (kind : Option OpenKind) → HasNoTree (received_part kind)
@@ -115,7 +115,7 @@ received_beside None n = (refl, refl)
 received_beside (Some (Terminal which flags)) n = (refl, refl)
 received_beside (Some (File node offset flags)) n = (refl, refl)
 received_beside (Some (Directory node flags)) n = (refl, refl)
-received_beside (Some (End reads writes flags)) n = channel_beside reads n
+received_beside (Some (End reads writes flags form)) n = channel_beside reads n
 received_beside (Some (Process p object)) n = (refl, refl)
 
 pub shut_beside : (kind : Option OpenKind) → HasNoTree (both_parts kind)
@@ -123,7 +123,7 @@ shut_beside None n = (refl, refl)
 shut_beside (Some (Terminal which flags)) n = (refl, refl)
 shut_beside (Some (File node offset flags)) n = (refl, refl)
 shut_beside (Some (Directory node flags)) n = (refl, refl)
-shut_beside (Some (End reads writes flags)) n =
+shut_beside (Some (End reads writes flags form)) n =
     both_beside (channel_part reads) (channel_part writes) (channel_beside reads) (channel_beside writes) n
 shut_beside (Some (Process p object)) n = (refl, refl)
 
@@ -184,7 +184,7 @@ module _ (fd : ℕ) (stat : FileStat) (flags : ℕ) where
     put_stays now U (Some (Directory n open_flags)) =
         either_stays (not (bit_and flags 16 == 0)) U _ (becomes_in n (put_times flags stat now (tree_of U) n)) refl
         (node_stays U n (put_times flags stat now (tree_of U) n) (times_stay now (tree_of U) n))
-    put_stays now U (Some (End reads writes open_flags)) = refl
+    put_stays now U (Some (End reads writes open_flags form)) = refl
     put_stays now U (Some (Terminal which open_flags)) = refl
     put_stays now U (Some (Process p object)) = refl
 

@@ -14,6 +14,7 @@ use Rattle.std.specs.Ordering.{nat_cmp}
 use Rattle.std.specs.FinMap.{FinMap, empty, get, insert}
 use Rattle.std.specs.List.{AllByRecursion}
 use Rattle.abi_base.specs.declared.limits.TheConstants.{MOST_DESCRIPTORS}
+use Rattle.abi_types.specs.declared.chan_kind.ChanKind.{ChanKind}
 use Rattle.abi_types.specs.Families.{call_of_socket}
 use Rattle.abi_types.specs.declared.call.Call.{Call}
 use Rattle.abi_types.specs.declared.call.Call.TheVariants as call
@@ -183,18 +184,18 @@ keys_after (u ∷ us) p chans base of keys = absurd of.0
 -- ---- no channel is over
 
 -- an end that reads the channel, and one that writes it
-reader_by : (c : ℕ) (kind : Option OpenKind) → is_reader c kind ≡ true → (writes : Option ℕ) × (flags : ℕ) × (kind ≡ Some (End (Some c) writes flags))
-reader_by c (Some (End (Some r) writes flags)) h =
+reader_by : (c : ℕ) (kind : Option OpenKind) → is_reader c kind ≡ true → (writes : Option ℕ) × (flags : ℕ) × (form : ChanKind) × (kind ≡ Some (End (Some c) writes flags form))
+reader_by c (Some (End (Some r) writes flags form)) h =
     elim (eqb_tells r c) [
-      | inl is ↦ (writes, flags, ap (λ q. Some (End (Some q) writes flags)) is.1)
+      | inl is ↦ (writes, flags, form, ap (λ q. Some (End (Some q) writes flags form)) is.1)
       | inr other ↦ absurd (not_true (sym other.0 ∙ h))
     ]
 reader_by c kind h = absurd (not_true h)
 
-writer_by : (c : ℕ) (kind : Option OpenKind) → is_writer c kind ≡ true → (reads : Option ℕ) × (flags : ℕ) × (kind ≡ Some (End reads (Some c) flags))
-writer_by c (Some (End reads (Some w) flags)) h =
+writer_by : (c : ℕ) (kind : Option OpenKind) → is_writer c kind ≡ true → (reads : Option ℕ) × (flags : ℕ) × (form : ChanKind) × (kind ≡ Some (End reads (Some c) flags form))
+writer_by c (Some (End reads (Some w) flags form)) h =
     elim (eqb_tells w c) [
-      | inl is ↦ (reads, flags, ap (λ q. Some (End reads (Some q) flags)) is.1)
+      | inl is ↦ (reads, flags, form, ap (λ q. Some (End reads (Some q) flags form)) is.1)
       | inr other ↦ absurd (not_true (sym other.0 ∙ h))
     ]
 writer_by c kind h = absurd (not_true h)
@@ -223,14 +224,14 @@ module _ (S : State) (tables : FinMap nat_cmp Table) (chans : Channels) (v : IsV
   by_reader : (c o : ℕ) (channel : Channel) → get chans c ≡ Some channel → is_reader c (get S.opens o) ≡ true → is_channel_kept (Some channel) ≡ true
   by_reader c o channel there reads =
       let end = reader_by c (get S.opens o) reads in
-      let has = (nearly.behind o (End (Some c) end.0 end.1) end.2).1 in
+      let has = (nearly.behind o (End (Some c) end.0 end.1 end.2) end.3).1 in
       let same : has.0 ≡ channel = same_some has.0 channel (sym has.1 ∙ there) in
       subst (λ (x : Channel). is_channel_kept (Some x) ≡ true) same (read_goes_on has.0 has.0.reader refl has.2)
 
   by_writer : (c o : ℕ) (channel : Channel) → get chans c ≡ Some channel → is_writer c (get S.opens o) ≡ true → is_channel_kept (Some channel) ≡ true
   by_writer c o channel there writes =
       let end = writer_by c (get S.opens o) writes in
-      let has = (nearly.behind o (End end.0 (Some c) end.1) end.2).2 in
+      let has = (nearly.behind o (End end.0 (Some c) end.1 end.2) end.3).2 in
       let same : has.0 ≡ channel = same_some has.0 channel (sym has.1 ∙ there) in
       subst (λ (x : Channel). is_channel_kept (Some x) ≡ true) same (written_goes_on has.0 has.0.reader has.0.writer refl refl has.2)
 
@@ -299,8 +300,8 @@ module _ (chans : Channels) where
   read_sets n flags (Some c) = from_set n (is_nonblocking flags) c (get chans c) refl
 
   pub end_sets : (kind : OpenKind) (called : Call) → SetsThere chans (end_outcome chans kind called).updates
-  end_sets (End reads writes flags) (call.FdRead fd n) = read_sets n flags reads
-  end_sets (End reads writes flags) (call.FdWrite fd bytes) = send_sets written_reply flags bytes [] writes
+  end_sets (End reads writes flags form) (call.FdRead fd n) = read_sets n flags reads
+  end_sets (End reads writes flags form) (call.FdWrite fd bytes) = send_sets written_reply flags bytes [] writes
   end_sets kind called = tt
 
   both_shut : (first : Bool) (r : ℕ) (x : Option Channel) (second : Bool) (w : ℕ) (y : Option Channel) → get chans r ≡ x → get chans w ≡ y
@@ -316,19 +317,19 @@ module _ (chans : Channels) where
   both_shut false r x false w y one two = tt
 
   shut_sets : (how : ℕ) (kind : OpenKind) → SetsThere chans (shut_open (seen_in chans) how (Some kind)).updates
-  shut_sets how (End (Some r) (Some w) flags) =
+  shut_sets how (End (Some r) (Some w) flags form) =
       both_shut (not (bit_and how 1 == 0)) r (get chans r) (not (bit_and how 2 == 0)) w (get chans w) refl refl
-  shut_sets how (End (Some r) None flags) = tt
-  shut_sets how (End None writes flags) = tt
+  shut_sets how (End (Some r) None flags form) = tt
+  shut_sets how (End None writes flags form) = tt
   shut_sets how (File node offset flags) = tt
   shut_sets how (Directory node flags) = tt
   shut_sets how (Terminal which flags) = tt
   shut_sets how (Process p object) = tt
 
   sent_sets : (bytes : List ℕ) (carried : List Descriptor) (kind : OpenKind) → SetsThere chans (send_open (seen_in chans) bytes carried (Some kind)).updates
-  sent_sets bytes carried (End (Some r) (Some w) flags) = send_sets sent_reply flags bytes carried (Some w)
-  sent_sets bytes carried (End (Some r) None flags) = tt
-  sent_sets bytes carried (End None writes flags) = tt
+  sent_sets bytes carried (End (Some r) (Some w) flags form) = send_sets sent_reply flags bytes carried (Some w)
+  sent_sets bytes carried (End (Some r) None flags form) = tt
+  sent_sets bytes carried (End None writes flags form) = tt
   sent_sets bytes carried (File node offset flags) = tt
   sent_sets bytes carried (Directory node flags) = tt
   sent_sets bytes carried (Terminal which flags) = tt
@@ -337,7 +338,7 @@ module _ (chans : Channels) where
   pub socket_sets : (p : ℕ) (table : Table) (kind : OpenKind) (v : SocketCall) → AreOfEnds p chans (socket_outcome p table chans kind (call_of_socket v)).updates
   socket_sets p table kind (socket.SockRecv fd n room flags) =
       receive_holds p table (seen_in chans) n room flags (λ x. AreOfEnds p chans x.updates) (λ errno here. tt) tt (λ bytes. tt) (Some kind)
-      (λ c w mode channel installed is there made. (ap is_some there, (refl, tt)))
+      (λ c w mode form channel installed is there made. (ap is_some there, (refl, tt)))
   socket_sets p table kind (socket.SockSend fd bytes fds flags) = of_ends p chans _ (sent_sets bytes.now (picked table fds.now) kind)
   socket_sets p table kind (socket.SockShutdown fd how) = of_ends p chans _ (shut_sets how kind)
 
@@ -353,28 +354,28 @@ send_alike S reply flags [] carried writes = refl
 send_alike S reply flags (b ∷ bytes) carried None = refl
 send_alike S reply flags (b ∷ bytes) carried (Some c) = refl
 
-pub end_is : (called : Call) (fd now : ℕ) (S : State) (o : ℕ) (reads writes : Option ℕ) (flags : ℕ) → offset_fd called ≡ Some fd
-    → (offset_meaning called).effect now (whole S) o (Some (End reads writes flags)) ≡ end_outcome S.chans (End reads writes flags) called
-end_is (call.FdRead n length) fd now S o reads writes flags is = read_alike S length flags reads
-end_is (call.FdSeek n offset whence) fd now S o reads writes flags is = refl
-end_is (call.FdWrite n bytes) fd now S o reads writes flags is = send_alike S written_reply flags bytes [] writes
-end_is other fd now S o reads writes flags is = absurd (none_is_no fd is)
+pub end_is : (called : Call) (fd now : ℕ) (S : State) (o : ℕ) (reads writes : Option ℕ) (flags : ℕ) (form : ChanKind) → offset_fd called ≡ Some fd
+    → (offset_meaning called).effect now (whole S) o (Some (End reads writes flags form)) ≡ end_outcome S.chans (End reads writes flags form) called
+end_is (call.FdRead n length) fd now S o reads writes flags form is = read_alike S length flags reads
+end_is (call.FdSeek n offset whence) fd now S o reads writes flags form is = refl
+end_is (call.FdWrite n bytes) fd now S o reads writes flags form is = send_alike S written_reply flags bytes [] writes
+end_is other fd now S o reads writes flags form is = absurd (none_is_no fd is)
 
 pub end_nearly : (S : State) (o : ℕ) (kind : OpenKind) (called : Call) → get S.opens o ≡ Some kind → IsNearlyValid S
     → IsNearlyValid (put_all (end_outcome S.chans kind called).updates S)
-end_nearly S o (End reads writes flags) (call.FdRead fd n) there nearly =
+end_nearly S o (End reads writes flags form) (call.FdRead fd n) there nearly =
     subst (λ (x : Outcome). IsNearlyValid (put_all x.updates S)) (read_alike S n flags reads)
-    ((read_opens_well n).valid 0 S o (Some (End reads writes flags)) there nearly)
-end_nearly S o (End reads writes flags) (call.FdWrite fd bytes) there nearly =
+    ((read_opens_well n).valid 0 S o (Some (End reads writes flags form)) there nearly)
+end_nearly S o (End reads writes flags form) (call.FdWrite fd bytes) there nearly =
     subst (λ (x : Outcome). IsNearlyValid (put_all x.updates S)) (send_alike S written_reply flags bytes [] writes)
-    ((write_opens_well bytes).valid 0 S o (Some (End reads writes flags)) there nearly)
+    ((write_opens_well bytes).valid 0 S o (Some (End reads writes flags form)) there nearly)
 end_nearly S o kind called there nearly = nearly
 
 sent_alike : (S : State) (bytes : List ℕ) (carried : List Descriptor) (kind : OpenKind)
     → send_open (whole S) bytes carried (Some kind) ≡ send_open (seen_in S.chans) bytes carried (Some kind)
-sent_alike S bytes carried (End (Some r) (Some w) flags) = send_alike S sent_reply flags bytes carried (Some w)
-sent_alike S bytes carried (End (Some r) None flags) = refl
-sent_alike S bytes carried (End None writes flags) = refl
+sent_alike S bytes carried (End (Some r) (Some w) flags form) = send_alike S sent_reply flags bytes carried (Some w)
+sent_alike S bytes carried (End (Some r) None flags form) = refl
+sent_alike S bytes carried (End None writes flags form) = refl
 sent_alike S bytes carried (File node offset flags) = refl
 sent_alike S bytes carried (Directory node flags) = refl
 sent_alike S bytes carried (Terminal which flags) = refl
@@ -382,18 +383,18 @@ sent_alike S bytes carried (Process p object) = refl
 
 received_alike : (S : State) (p : ℕ) (table : Table) (n room flags : ℕ) (kind : OpenKind)
     → receive_open p table (whole S) n room flags (Some kind) ≡ receive_open p table (seen_in S.chans) n room flags (Some kind)
-received_alike S p table n room flags (End (Some r) (Some w) mode) = refl
-received_alike S p table n room flags (End (Some r) None mode) = refl
-received_alike S p table n room flags (End None writes mode) = refl
+received_alike S p table n room flags (End (Some r) (Some w) mode form) = refl
+received_alike S p table n room flags (End (Some r) None mode form) = refl
+received_alike S p table n room flags (End None writes mode form) = refl
 received_alike S p table n room flags (File node offset mode) = refl
 received_alike S p table n room flags (Directory node mode) = refl
 received_alike S p table n room flags (Terminal which mode) = refl
 received_alike S p table n room flags (Process q object) = refl
 
 shut_alike : (S : State) (how : ℕ) (kind : OpenKind) → shut_open (whole S) how (Some kind) ≡ shut_open (seen_in S.chans) how (Some kind)
-shut_alike S how (End (Some r) (Some w) flags) = refl
-shut_alike S how (End (Some r) None flags) = refl
-shut_alike S how (End None writes flags) = refl
+shut_alike S how (End (Some r) (Some w) flags form) = refl
+shut_alike S how (End (Some r) None flags form) = refl
+shut_alike S how (End None writes flags form) = refl
 shut_alike S how (File node offset flags) = refl
 shut_alike S how (Directory node flags) = refl
 shut_alike S how (Terminal which flags) = refl
@@ -491,7 +492,7 @@ pub socket_small : (chans : Channels) (p : ℕ) (table : Table) (kind : OpenKind
     → IsTable (table_after (socket_outcome p table chans kind (call_of_socket v)).updates table)
 socket_small chans p table kind (socket.SockRecv fd n room flags) small =
     receive_holds p table (seen_in chans) n room flags (λ x. IsTable (table_after x.updates table)) (λ errno here. small) small (λ bytes. small) (Some kind)
-    (λ c w mode channel installed is there made. installs_small table (take room (pull n channel).carried) installed small made)
+    (λ c w mode form channel installed is there made. installs_small table (take room (pull n channel).carried) installed small made)
 socket_small chans p table kind (socket.SockSend fd bytes fds flags) small =
     subst IsTable (sym (no_table chans _ table (sent_sets chans bytes.now (picked table fds.now) kind))) small
 socket_small chans p table kind (socket.SockShutdown fd how) small = subst IsTable (sym (no_table chans _ table (shut_sets chans how kind))) small

@@ -9,6 +9,8 @@ use Rattle.std.specs.Ordering.{nat_cmp}
 use Rattle.std.specs.FinMap.{FinMap, get, insert}
 use Rattle.abi_base.specs.declared.errno.Errno.TheVariants.{Again, Mfile}
 use Rattle.abi_base.specs.declared.limits.TheConstants.{MOST_DESCRIPTORS}
+use Rattle.abi_types.specs.declared.chan_kind.ChanKind.{ChanKind}
+use Rattle.abi_types.specs.declared.chan_kind.ChanKind.TheVariants as chan_kind
 use Rattle.abi_types.specs.declared.call.Call.TheVariants as call
 use Rattle.abi_types.specs.declared.descriptor.Descriptor.{Descriptor}
 use Rattle.abi_types.specs.declared.open_kind.OpenKind.{OpenKind}
@@ -200,9 +202,9 @@ pair_put S p own table Fifo f a b there is =
     (λ i. record S {
       processes = insert S.processes p (made_more 3 own);
       chans = insert S.chans (is i) new_channel;
-      opens = insert (insert S.opens (two i) (End (Some (is i)) None 0)) (three i) (End None (Some (is i)) 0);
-      tables = insert S.tables p (insert (insert table a (model.end_descriptor (two i) (End (Some (is i)) None 0))) b
-          (model.end_descriptor (three i) (End None (Some (is i)) 0)));
+      opens = insert (insert S.opens (two i) (End (Some (is i)) None 0 chan_kind.Stream)) (three i) (End None (Some (is i)) 0 chan_kind.Stream);
+      tables = insert S.tables p (insert (insert table a (model.end_descriptor (two i) (End (Some (is i)) None 0 chan_kind.Stream))) b
+          (model.end_descriptor (three i) (End None (Some (is i)) 0 chan_kind.Stream)));
     })
     ∙ ap (λ o. put_all (model.create_updates model.pipe p o table a b) S) (sym there)
 pair_put S p own table Stream f a b there is =
@@ -212,29 +214,29 @@ pair_put S p own table Stream f a b there is =
     (λ i. record S {
       processes = insert S.processes p (made_more 4 own);
       chans = insert (insert S.chans (is i) new_channel) (two i) new_channel;
-      opens = insert (insert S.opens (three i) (End (Some (is i)) (Some (two i)) 0)) (four i) (End (Some (two i)) (Some (is i)) 0);
-      tables = insert S.tables p (insert (insert table a (model.end_descriptor (three i) (End (Some (is i)) (Some (two i)) 0))) b
-          (model.end_descriptor (four i) (End (Some (two i)) (Some (is i)) 0)));
+      opens = insert (insert S.opens (three i) (End (Some (is i)) (Some (two i)) 0 chan_kind.Stream)) (four i) (End (Some (two i)) (Some (is i)) 0 chan_kind.Stream);
+      tables = insert S.tables p (insert (insert table a (model.end_descriptor (three i) (End (Some (is i)) (Some (two i)) 0 chan_kind.Stream))) b
+          (model.end_descriptor (four i) (End (Some (two i)) (Some (is i)) 0 chan_kind.Stream)));
     })
     ∙ ap (λ o. put_all (model.create_updates model.pair p o table a b) S) (sym there)
 
 -- an end is no open of a node
-end_used : (opens : FinMap nat_cmp OpenKind) (o : ℕ) (reads writes : Option ℕ) (flags : ℕ) (t : Tree) (n : ℕ) → get opens o ≡ None
-    → is_used (insert opens o (End reads writes flags)) t n ≡ is_used opens t n
-end_used opens o reads writes flags t n none =
-    let sums = total-insert_new (one_of_node n) opens o (End reads writes flags) none in
+end_used : (opens : FinMap nat_cmp OpenKind) (o : ℕ) (reads writes : Option ℕ) (flags : ℕ) (form : ChanKind) (t : Tree) (n : ℕ) → get opens o ≡ None
+    → is_used (insert opens o (End reads writes flags form)) t n ≡ is_used opens t n
+end_used opens o reads writes flags form t n none =
+    let sums = total-insert_new (one_of_node n) opens o (End reads writes flags form) none in
     ap (λ k. (n == ROOT) || (nat_lt 0 (links_of t n) || nat_lt 0 k)) (sums ∙ omega arith)
 
 pub pair_used : (k : PairKind) (f a b : ℕ) (chans : Channels) (opens : FinMap nat_cmp OpenKind) (counts : FinMap nat_cmp ℕ) (t : Tree) (n : ℕ)
     → AreNew (pair_by k f a b) chans opens counts → is_used (opens_with (pair_by k f a b) opens) t n ≡ is_used opens t n
 pair_used Fifo f a b chans opens counts t n new =
-    end_used (insert opens (f + 1) (End (Some f) None 0)) (f + 1 + 1) None (Some f) 0 t n
-    (get-insert-other opens (f + 1) (End (Some f) None 0) (f + 1 + 1) (λ e. (omega (arith, e))) ∙ new.two)
-    ∙ end_used opens (f + 1) (Some f) None 0 t n new.one
+    end_used (insert opens (f + 1) (End (Some f) None 0 chan_kind.Stream)) (f + 1 + 1) None (Some f) 0 chan_kind.Stream t n
+    (get-insert-other opens (f + 1) (End (Some f) None 0 chan_kind.Stream) (f + 1 + 1) (λ e. (omega (arith, e))) ∙ new.two)
+    ∙ end_used opens (f + 1) (Some f) None 0 chan_kind.Stream t n new.one
 pair_used Stream f a b chans opens counts t n new =
-    end_used (insert opens (f + 2) (End (Some f) (Some (f + 1)) 0)) (f + 2 + 1) (Some (f + 1)) (Some f) 0 t n
-    (get-insert-other opens (f + 2) (End (Some f) (Some (f + 1)) 0) (f + 2 + 1) (λ e. (omega (arith, e))) ∙ new.two)
-    ∙ end_used opens (f + 2) (Some f) (Some (f + 1)) 0 t n new.one
+    end_used (insert opens (f + 2) (End (Some f) (Some (f + 1)) 0 chan_kind.Stream)) (f + 2 + 1) (Some (f + 1)) (Some f) 0 chan_kind.Stream t n
+    (get-insert-other opens (f + 2) (End (Some f) (Some (f + 1)) 0 chan_kind.Stream) (f + 2 + 1) (λ e. (omega (arith, e))) ∙ new.two)
+    ∙ end_used opens (f + 2) (Some f) (Some (f + 1)) 0 chan_kind.Stream t n new.one
 
 new_going : (chans : Channels) (c : ℕ) → AllGoOn chans → AllGoOn (insert chans c new_channel)
 new_going chans c going e =

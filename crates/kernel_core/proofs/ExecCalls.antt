@@ -87,7 +87,7 @@ module _ (key : List ℕ) (S : State) (p t : ℕ) (table : Table) (fd : ℕ) (fd
       ≡ exec_bytes key p t (listed table fds) (get S.processes p) (option_map (bytes_of (tree_of S)) (node_of_file kind))
   by_bytes (File node offset flags) = refl
   by_bytes (Directory node flags) = refl
-  by_bytes (End reads writes flags) = refl
+  by_bytes (End reads writes flags form) = refl
   by_bytes (Terminal which flags) = refl
   by_bytes (Process q object) = refl
 

@@ -109,7 +109,7 @@ tree_valid S t same nearly v = record {
 pub there_behind : (S : State) (kind : OpenKind) → HasBehind S kind → IsThere (tree_of S) kind
 there_behind S (File node offset flags) h = h
 there_behind S (Directory node flags) h = h
-there_behind S (End reads writes flags) h = tt
+there_behind S (End reads writes flags form) h = tt
 there_behind S (Terminal which flags) h = h.1
 there_behind S (Process p object) h = tt
 

@@ -12,6 +12,7 @@ use Rattle.std.specs.List.{AllByRecursion}
 use Rattle.std.specs.declared.alloc.AllocError.{AllocError}
 use Rattle.abi_base.specs.declared.errno.Errno.TheVariants.{Badf, Fbig}
 use Rattle.abi_base.specs.declared.rights.TheConstants.Rights.{FD_SEEK, FD_TELL}
+use Rattle.abi_types.specs.declared.chan_kind.ChanKind.{ChanKind}
 use Rattle.abi_types.specs.declared.call.Call.{Call}
 use Rattle.abi_types.specs.declared.call.Call.TheVariants as call
 use Rattle.abi_types.specs.declared.constants.Constants.{Constants}
@@ -150,29 +151,29 @@ stream_done called S which terms (Err e) valid stays done = (done.0, done.1, ap 
 
 -- ---- ends of channels
 
-pub end_outcome_is : (constants : Constants) (S : State) (table : Table) (fd : ℕ) (called : Call) (d : Descriptor) (reads writes : Option ℕ) (flags : ℕ)
-    → offset_fd called ≡ Some fd → get table fd ≡ Some d → get S.opens d.id ≡ Some (End reads writes flags)
-    → offset_outcome constants S table fd called ≡ end_outcome S.chans (End reads writes flags) called
-end_outcome_is constants S table fd called d reads writes flags is named there =
-    at_open constants S table fd called d (Some (End reads writes flags)) named there ∙ end_is called fd (real_time constants S.clock) S d.id reads writes flags is
+pub end_outcome_is : (constants : Constants) (S : State) (table : Table) (fd : ℕ) (called : Call) (d : Descriptor) (reads writes : Option ℕ) (flags : ℕ) (form : ChanKind)
+    → offset_fd called ≡ Some fd → get table fd ≡ Some d → get S.opens d.id ≡ Some (End reads writes flags form)
+    → offset_outcome constants S table fd called ≡ end_outcome S.chans (End reads writes flags form) called
+end_outcome_is constants S table fd called d reads writes flags form is named there =
+    at_open constants S table fd called d (Some (End reads writes flags form)) named there ∙ end_is called fd (real_time constants S.clock) S d.id reads writes flags form is
 
 -- ---- opens that aren't of standard streams
 
 -- such an open, which is no end of channels either
 abbrev pub IsNoStream : OpenKind → Type 0
-IsNoStream kind = ((which flags : ℕ) → kind ≢ Terminal which flags) × ((reads writes : Option ℕ) (flags : ℕ) → kind ≢ End reads writes flags)
+IsNoStream kind = ((which flags : ℕ) → kind ≢ Terminal which flags) × ((reads writes : Option ℕ) (flags : ℕ) (form : ChanKind) → kind ≢ End reads writes flags form)
 
 offset_is : (called : Call) (fd now : ℕ) (S : State) (o : ℕ) (kind : OpenKind) → offset_fd called ≡ Some fd → IsNoStream kind
     → (offset_meaning called).effect now (whole S) o (Some kind) ≡ with_offset o (offset_outcome_of now (tree_of S) called kind)
 offset_is (call.FdRead n length) fd now S o (File node offset flags) is unlike = refl
 offset_is (call.FdRead n length) fd now S o (Directory node flags) is unlike = refl
-offset_is (call.FdRead n length) fd now S o (End reads writes flags) is unlike = absurd (unlike.1 reads writes flags refl)
+offset_is (call.FdRead n length) fd now S o (End reads writes flags form) is unlike = absurd (unlike.1 reads writes flags form refl)
 offset_is (call.FdRead n length) fd now S o (Terminal which flags) is unlike = absurd (unlike.0 which flags refl)
 offset_is (call.FdRead n length) fd now S o (Process p object) is unlike = refl
 offset_is (call.FdSeek n offset whence) fd now S o kind is unlike = refl
 offset_is (call.FdWrite n bytes) fd now S o (File node offset flags) is unlike = refl
 offset_is (call.FdWrite n bytes) fd now S o (Directory node flags) is unlike = refl
-offset_is (call.FdWrite n bytes) fd now S o (End reads writes flags) is unlike = absurd (unlike.1 reads writes flags refl)
+offset_is (call.FdWrite n bytes) fd now S o (End reads writes flags form) is unlike = absurd (unlike.1 reads writes flags form refl)
 offset_is (call.FdWrite n bytes) fd now S o (Terminal which flags) is unlike = absurd (unlike.0 which flags refl)
 offset_is (call.FdWrite n bytes) fd now S o (Process p object) is unlike = refl
 offset_is other fd now S o kind is unlike = absurd (none_is_no fd is)
@@ -222,17 +223,17 @@ seek_keeps node offset flags (Some place) = moved_keeps node offset place flags 
 offset_keeps : (now : ℕ) (t : Tree) (called : Call) (kind : OpenKind) → Keeps kind (offset_outcome_of now t called kind)
 offset_keeps now t (call.FdRead n length) (File node offset flags) = moved_keeps node offset _ flags _ tt
 offset_keeps now t (call.FdRead n length) (Directory node flags) = stays_keeps _ _
-offset_keeps now t (call.FdRead n length) (End reads writes flags) = stays_keeps _ _
+offset_keeps now t (call.FdRead n length) (End reads writes flags form) = stays_keeps _ _
 offset_keeps now t (call.FdRead n length) (Terminal which flags) = stays_keeps _ _
 offset_keeps now t (call.FdRead n length) (Process p object) = stays_keeps _ _
 offset_keeps now t (call.FdSeek n offset whence) (File node at flags) = seek_keeps node at flags (sought t node at offset whence)
 offset_keeps now t (call.FdSeek n offset whence) (Directory node flags) = stays_keeps _ _
-offset_keeps now t (call.FdSeek n offset whence) (End reads writes flags) = stays_keeps _ _
+offset_keeps now t (call.FdSeek n offset whence) (End reads writes flags form) = stays_keeps _ _
 offset_keeps now t (call.FdSeek n offset whence) (Terminal which flags) = stays_keeps _ _
 offset_keeps now t (call.FdSeek n offset whence) (Process p object) = stays_keeps _ _
 offset_keeps now t (call.FdWrite n bytes) (File node offset flags) = write_keeps t node offset flags now (write_place t node offset flags) bytes
 offset_keeps now t (call.FdWrite n bytes) (Directory node flags) = stays_keeps _ _
-offset_keeps now t (call.FdWrite n bytes) (End reads writes flags) = stays_keeps _ _
+offset_keeps now t (call.FdWrite n bytes) (End reads writes flags form) = stays_keeps _ _
 offset_keeps now t (call.FdWrite n bytes) (Terminal which flags) = stays_keeps _ _
 offset_keeps now t (call.FdWrite n bytes) (Process p object) = stays_keeps _ _
 offset_keeps now t other kind = stays_keeps _ _

@@ -21,7 +21,7 @@ use Rattle.abi_types.specs.declared.family.DescriptorChange.TheVariants.{Close, 
 pub same_node : (kind : OpenKind) (flags n : ℕ) → one_of_node n (with_flags kind flags) ≡ one_of_node n kind
 same_node (File node offset old) flags n = refl
 same_node (Directory node old) flags n = refl
-same_node (End reads writes old) flags n = refl
+same_node (End reads writes old form) flags n = refl
 same_node (Terminal which old) flags n = refl
 same_node (Process p object) flags n = refl
 

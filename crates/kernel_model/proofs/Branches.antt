@@ -49,7 +49,7 @@ abbrev pub IsSeen : Tree → Tree → Option OpenKind → Type 0
 IsSeen t u None = ⊤
 IsSeen t u (Some (File node offset flags)) = get t.nodes node ≡ get u.nodes node
 IsSeen t u (Some (Directory node flags)) = HasSameBelow t u node
-IsSeen t u (Some (End reads writes flags)) = ⊤
+IsSeen t u (Some (End reads writes flags form)) = ⊤
 IsSeen t u (Some (Terminal which flags)) = ⊤
 IsSeen t u (Some (Process p object)) = ⊤
 
@@ -87,7 +87,7 @@ all_behind_is_seen S parts (Some (Directory node flags)) all =
       names = λ d under. seen_names S parts d (all (at_names d) (names_are_part d nodes under));
       fewer = λ n none. unseen_node S parts n none;
     }
-all_behind_is_seen S parts (Some (End reads writes flags)) all = tt
+all_behind_is_seen S parts (Some (End reads writes flags form)) all = tt
 all_behind_is_seen S parts (Some (Terminal which flags)) all = tt
 all_behind_is_seen S parts (Some (Process q object)) all = tt
 

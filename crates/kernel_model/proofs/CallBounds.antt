@@ -116,9 +116,9 @@ stream_left q (node n) (Some (Terminal which flags)) = refl
 stream_left q (names n) (Some (Terminal which flags)) = refl
 stream_left q of (Some (File n offset flags)) = refl
 stream_left q of (Some (Directory n flags)) = refl
-stream_left q of (Some (End None writes flags)) = refl
-stream_left q (node n) (Some (End (Some c) writes flags)) = refl
-stream_left q (names n) (Some (End (Some c) writes flags)) = refl
+stream_left q of (Some (End None writes flags form)) = refl
+stream_left q (node n) (Some (End (Some c) writes flags form)) = refl
+stream_left q (names n) (Some (End (Some c) writes flags form)) = refl
 stream_left q of (Some (Process p object)) = refl
 
 on_open_keeps : (row : Needed) (m : OpenMeaning) → ((q : Part) → IsOfTree q → (kind : Option OpenKind) → has_part (m.touched kind) q ≡ false)

@@ -13,6 +13,7 @@ use Rattle.std.specs.FinMap.{get}
 use Rattle.std.specs.List.{AllByRecursion}
 use Rattle.abi_base.specs.declared.errno.Errno.{Errno}
 use Rattle.abi_base.specs.declared.errno.Errno.TheVariants.{Again, Badf, Pipe, Success}
+use Rattle.abi_types.specs.declared.chan_kind.ChanKind.{ChanKind}
 use Rattle.abi_types.specs.declared.descriptor.Descriptor.{Descriptor}
 use Rattle.abi_types.specs.declared.open_kind.OpenKind.{OpenKind}
 use Rattle.abi_types.specs.declared.open_kind.OpenKind.TheVariants.{End}
@@ -124,12 +125,12 @@ module _ (reply : ℕ → Reply) (well : RepliesWell reply) (errors : List Errno
   to_ends (Some channel) is = push_ends channel is (is_hung channel) (has_room (length carried) channel) refl refl
 
 pub send_ends : (reply : ℕ → Reply) → RepliesWell reply → (errors : List Errno) → IsIn Badf errors → IsIn Again errors → IsIn Pipe errors → (v : View) (o : ℕ)
-    (bytes : List ℕ) (carried : List Descriptor) (reads writes : Option ℕ) (flags : ℕ)
-    → Ends (AreNamed carried) (AreIn carried) errors (channel_part writes) v o (Some (End reads writes flags)) (send_on reply v flags bytes carried writes)
-send_ends reply well errors badf again pipe v o [] carried reads writes flags = ends_reply _ _ _ _ _ _ _ (reply 0) (well 0).0 (well 0).1
-send_ends reply well errors badf again pipe v o (b ∷ bytes) carried reads None flags = ends_refused _ _ _ _ _ _ _ Badf badf
-send_ends reply well errors badf again pipe v o (b ∷ bytes) carried reads (Some c) flags =
-    to_ends reply well errors badf again pipe v o (Some (End reads (Some c) flags)) c b bytes carried (is_nonblocking flags) (v.channel c) refl
+    (bytes : List ℕ) (carried : List Descriptor) (reads writes : Option ℕ) (flags : ℕ) (form : ChanKind)
+    → Ends (AreNamed carried) (AreIn carried) errors (channel_part writes) v o (Some (End reads writes flags form)) (send_on reply v flags bytes carried writes)
+send_ends reply well errors badf again pipe v o [] carried reads writes flags form = ends_reply _ _ _ _ _ _ _ (reply 0) (well 0).0 (well 0).1
+send_ends reply well errors badf again pipe v o (b ∷ bytes) carried reads None flags form = ends_refused _ _ _ _ _ _ _ Badf badf
+send_ends reply well errors badf again pipe v o (b ∷ bytes) carried reads (Some c) flags form =
+    to_ends reply well errors badf again pipe v o (Some (End reads (Some c) flags form)) c b bytes carried (is_nonblocking flags) (v.channel c) refl
 
 -- ---- what is seen of an end
 
@@ -146,25 +147,25 @@ module _ (S : State) (p o : ℕ) where
       (has_right (at_open o ∷ []) (behind S kind ++ []) q (has_left (behind S kind) [] q h))
 
   -- the channel that an end reads, and the one that it writes, are seen
-  pub reader_seen : (c : ℕ) (writes : Option ℕ) (flags : ℕ)
-      → (restrict S (seen_parts S p o (Some (End (Some c) writes flags)))).channel c ≡ get S.chans c
-  reader_seen c writes flags =
-      seen_where _ (get S.chans c) (behind_seen (Some (End (Some c) writes flags)) (at_chan c)
+  pub reader_seen : (c : ℕ) (writes : Option ℕ) (flags : ℕ) (form : ChanKind)
+      → (restrict S (seen_parts S p o (Some (End (Some c) writes flags form)))).channel c ≡ get S.chans c
+  reader_seen c writes flags form =
+      seen_where _ (get S.chans c) (behind_seen (Some (End (Some c) writes flags form)) (at_chan c)
       (has_left (channel_part (Some c)) (channel_part writes) (at_chan c) (here c)))
 
-  pub writer_seen : (reads : Option ℕ) (c flags : ℕ)
-      → (restrict S (seen_parts S p o (Some (End reads (Some c) flags)))).channel c ≡ get S.chans c
-  writer_seen reads c flags =
-      seen_where _ (get S.chans c) (behind_seen (Some (End reads (Some c) flags)) (at_chan c)
+  pub writer_seen : (reads : Option ℕ) (c flags : ℕ) (form : ChanKind)
+      → (restrict S (seen_parts S p o (Some (End reads (Some c) flags form)))).channel c ≡ get S.chans c
+  writer_seen reads c flags form =
+      seen_where _ (get S.chans c) (behind_seen (Some (End reads (Some c) flags form)) (at_chan c)
       (has_right (channel_part reads) (channel_part (Some c)) (at_chan c) (here c)))
 
-pub send_reads : (reply : ℕ → Reply) (S : State) (p o : ℕ) (bytes : List ℕ) (carried : List Descriptor) (reads writes : Option ℕ) (flags : ℕ)
-    → send_on reply (restrict S (seen_parts S p o (Some (End reads writes flags)))) flags bytes carried writes
+pub send_reads : (reply : ℕ → Reply) (S : State) (p o : ℕ) (bytes : List ℕ) (carried : List Descriptor) (reads writes : Option ℕ) (flags : ℕ) (form : ChanKind)
+    → send_on reply (restrict S (seen_parts S p o (Some (End reads writes flags form)))) flags bytes carried writes
     ≡ send_on reply (whole S) flags bytes carried writes
-send_reads reply S p o [] carried reads writes flags = refl
-send_reads reply S p o (b ∷ bytes) carried reads None flags = refl
-send_reads reply S p o (b ∷ bytes) carried reads (Some c) flags =
-    ap (send_to reply (is_nonblocking flags) (b ∷ bytes) carried c) (writer_seen S p o reads c flags)
+send_reads reply S p o [] carried reads writes flags form = refl
+send_reads reply S p o (b ∷ bytes) carried reads None flags form = refl
+send_reads reply S p o (b ∷ bytes) carried reads (Some c) flags form =
+    ap (send_to reply (is_nonblocking flags) (b ∷ bytes) carried c) (writer_seen S p o reads c flags form)
 
 pub send_parks : (reply : ℕ → Reply) (v : View) (clock flags : ℕ) (bytes : List ℕ) (carried : List Descriptor) (writes : Option ℕ)
     → is_parked (send_on reply v flags bytes carried writes).answer ≡ true
@@ -173,13 +174,13 @@ send_parks reply v clock flags [] carried writes h = h
 send_parks reply v clock flags (b ∷ bytes) carried None h = h
 send_parks reply v clock flags (b ∷ bytes) carried (Some c) h = h
 
-pub written_end_seen : (S : State) (reads writes : Option ℕ) (flags : ℕ) (q : Part) → has_part (channel_part writes) q ≡ true
-    → has_part (behind S (Some (End reads writes flags))) q ≡ true
-written_end_seen S reads writes flags q h = has_right (channel_part reads) (channel_part writes) q h
+pub written_end_seen : (S : State) (reads writes : Option ℕ) (flags : ℕ) (form : ChanKind) (q : Part) → has_part (channel_part writes) q ≡ true
+    → has_part (behind S (Some (End reads writes flags form))) q ≡ true
+written_end_seen S reads writes flags form q h = has_right (channel_part reads) (channel_part writes) q h
 
-pub read_end_seen : (S : State) (reads writes : Option ℕ) (flags : ℕ) (q : Part) → has_part (channel_part reads) q ≡ true
-    → has_part (behind S (Some (End reads writes flags))) q ≡ true
-read_end_seen S reads writes flags q h = has_left (channel_part reads) (channel_part writes) q h
+pub read_end_seen : (S : State) (reads writes : Option ℕ) (flags : ℕ) (form : ChanKind) (q : Part) → has_part (channel_part reads) q ≡ true
+    → has_part (behind S (Some (End reads writes flags form))) q ≡ true
+read_end_seen S reads writes flags form q h = has_left (channel_part reads) (channel_part writes) q h
 
 -- ---- reading
 
@@ -205,15 +206,15 @@ module _ (errors : List Errno) (badf : IsIn Badf errors) (again : IsIn Again err
   from_ends kind c nonblocking None is = ends_refused _ _ _ _ _ _ _ Badf badf
   from_ends kind c nonblocking (Some channel) is = pull_ends kind c nonblocking channel is (must_wait n channel)
 
-  pub read_ends : (reads writes : Option ℕ) (flags : ℕ)
-      → Ends (λ S. ⊤) (λ sender. ⊤) errors (channel_part reads) v o (Some (End reads writes flags)) (read_end v n flags reads)
-  read_ends None writes flags = ends_refused _ _ _ _ _ _ _ Badf badf
-  read_ends (Some c) writes flags = from_ends (Some (End (Some c) writes flags)) c (is_nonblocking flags) (v.channel c) refl
+  pub read_ends : (reads writes : Option ℕ) (flags : ℕ) (form : ChanKind)
+      → Ends (λ S. ⊤) (λ sender. ⊤) errors (channel_part reads) v o (Some (End reads writes flags form)) (read_end v n flags reads)
+  read_ends None writes flags form = ends_refused _ _ _ _ _ _ _ Badf badf
+  read_ends (Some c) writes flags form = from_ends (Some (End (Some c) writes flags form)) c (is_nonblocking flags) (v.channel c) refl
 
-pub read_end_reads : (S : State) (p o n : ℕ) (reads writes : Option ℕ) (flags : ℕ)
-    → read_end (restrict S (seen_parts S p o (Some (End reads writes flags)))) n flags reads ≡ read_end (whole S) n flags reads
-read_end_reads S p o n None writes flags = refl
-read_end_reads S p o n (Some c) writes flags = ap (read_from n (is_nonblocking flags) c) (reader_seen S p o c writes flags)
+pub read_end_reads : (S : State) (p o n : ℕ) (reads writes : Option ℕ) (flags : ℕ) (form : ChanKind)
+    → read_end (restrict S (seen_parts S p o (Some (End reads writes flags form)))) n flags reads ≡ read_end (whole S) n flags reads
+read_end_reads S p o n None writes flags form = refl
+read_end_reads S p o n (Some c) writes flags form = ap (read_from n (is_nonblocking flags) c) (reader_seen S p o c writes flags form)
 
 pub read_parks : (v : View) (clock n flags : ℕ) (reads : Option ℕ) → is_parked (read_end v n flags reads).answer ≡ true
     → is_parked (read_end (record v { clock = clock }) n flags reads).answer ≡ true

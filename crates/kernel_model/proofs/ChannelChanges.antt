@@ -240,7 +240,7 @@ module _ (S : State) (c : ℕ) (old new : Channel) (there : get S.chans c ≡ So
       → HasBehind (put_one (set_chan c new) S) kind
   put_behind reader writer (File q offset flags) h = h
   put_behind reader writer (Directory q flags) h = h
-  put_behind reader writer (End reads writes flags) h = (h.0, put_reader reader reads h.1, put_writer writer writes h.2)
+  put_behind reader writer (End reads writes flags form) h = (h.0, put_reader reader reads h.1, put_writer writer writes h.2)
   put_behind reader writer (Terminal which flags) h = h
   put_behind reader writer (Process q object) h = h
 

@@ -230,10 +230,10 @@ fd_stat_get_is_proper fd = record {
 pub same_with_flags : (kind : OpenKind) (new : ℕ) → IsSameBehind kind (with_flags kind new)
 same_with_flags (File node offset flags) new = record { base = refl; inheriting = refl; behind = λ S h. h; alike = λ k. (refl, refl, refl) }
 same_with_flags (Directory node flags) new = record { base = refl; inheriting = refl; behind = λ S h. h; alike = λ k. (refl, refl, refl) }
-same_with_flags (End None None flags) new = record { base = refl; inheriting = refl; behind = λ S h. h; alike = λ k. (refl, refl, refl) }
-same_with_flags (End None (Some writes) flags) new = record { base = refl; inheriting = refl; behind = λ S h. h; alike = λ k. (refl, refl, refl) }
-same_with_flags (End (Some reads) None flags) new = record { base = refl; inheriting = refl; behind = λ S h. h; alike = λ k. (refl, refl, refl) }
-same_with_flags (End (Some reads) (Some writes) flags) new = record { base = refl; inheriting = refl; behind = λ S h. h; alike = λ k. (refl, refl, refl) }
+same_with_flags (End None None flags form) new = record { base = refl; inheriting = refl; behind = λ S h. h; alike = λ k. (refl, refl, refl) }
+same_with_flags (End None (Some writes) flags form) new = record { base = refl; inheriting = refl; behind = λ S h. h; alike = λ k. (refl, refl, refl) }
+same_with_flags (End (Some reads) None flags form) new = record { base = refl; inheriting = refl; behind = λ S h. h; alike = λ k. (refl, refl, refl) }
+same_with_flags (End (Some reads) (Some writes) flags form) new = record { base = refl; inheriting = refl; behind = λ S h. h; alike = λ k. (refl, refl, refl) }
 same_with_flags (Terminal which flags) new = record { base = refl; inheriting = refl; behind = λ S h. h; alike = λ k. (refl, refl, refl) }
 same_with_flags (Process p object) new = record { base = refl; inheriting = refl; behind = λ S h. h; alike = λ k. (refl, refl, refl) }
 

@@ -17,6 +17,7 @@ use Rattle.std.specs.Bool.{nat_eq}
 use Rattle.std.specs.List.{list_any}
 use Rattle.std.specs.Option.{option_map}
 use Rattle.std.specs.FinMap.{get}
+use Rattle.abi_types.specs.declared.chan_kind.ChanKind.{ChanKind}
 use Rattle.abi_types.specs.declared.open_kind.OpenKind.{OpenKind}
 use Rattle.abi_types.specs.declared.open_kind.OpenKind.TheVariants.{File, Directory, End, Terminal, Process}
 use Rattle.abi_types.specs.declared.status.Status.{Status}
@@ -63,7 +64,7 @@ is_of : (p : ℕ) (kind : Option OpenKind) → is_of_process p kind ≡ true →
 is_of p None h = absurd (not_true h)
 is_of p (Some (File node offset flags)) h = absurd (not_true h)
 is_of p (Some (Directory node flags)) h = absurd (not_true h)
-is_of p (Some (End reads writes flags)) h = absurd (not_true h)
+is_of p (Some (End reads writes flags form)) h = absurd (not_true h)
 is_of p (Some (Terminal which flags)) h = absurd (not_true h)
 is_of p (Some (Process q object)) h = (object, ap (λ r. Some (Process r object)) (eqb-true q p h))
 
@@ -109,35 +110,35 @@ any_more f few many more some = let one = any_member f few some in any_of_member
 
 -- the open is an end that reads the channel, or one that writes it
 abbrev IsReaderOf : ℕ → Option OpenKind → Type 0
-IsReaderOf c kind = (writes : Option ℕ) × (flags : ℕ) × (kind ≡ Some (End (Some c) writes flags))
+IsReaderOf c kind = (writes : Option ℕ) × (flags : ℕ) × (form : ChanKind) × (kind ≡ Some (End (Some c) writes flags form))
 
 abbrev IsWriterOf : ℕ → Option OpenKind → Type 0
-IsWriterOf c kind = (reads : Option ℕ) × (flags : ℕ) × (kind ≡ Some (End reads (Some c) flags))
+IsWriterOf c kind = (reads : Option ℕ) × (flags : ℕ) × (form : ChanKind) × (kind ≡ Some (End reads (Some c) flags form))
 
 reads_it : (c : ℕ) (kind : Option OpenKind) → is_reader c kind ≡ true → IsReaderOf c kind
-reads_it c (Some (End (Some r) writes flags)) h = (writes, flags, ap (λ q. Some (End (Some q) writes flags)) (eqb-true r c h))
+reads_it c (Some (End (Some r) writes flags form)) h = (writes, flags, form, ap (λ q. Some (End (Some q) writes flags form)) (eqb-true r c h))
 reads_it c kind h = absurd (not_true h)
 
 writes_it : (c : ℕ) (kind : Option OpenKind) → is_writer c kind ≡ true → IsWriterOf c kind
-writes_it c (Some (End reads (Some w) flags)) h = (reads, flags, ap (λ q. Some (End reads (Some q) flags)) (eqb-true w c h))
+writes_it c (Some (End reads (Some w) flags form)) h = (reads, flags, form, ap (λ q. Some (End reads (Some q) flags form)) (eqb-true w c h))
 writes_it c kind h = absurd (not_true h)
 
 pub reader_lost_by : (S : State) (c : ℕ)
     → (loses_reader S (ends S) c ≡ true)
-    ↔ ((o : ℕ) × (member o (ends S) ≡ true) × (writes : Option ℕ) × (flags : ℕ) × (get S.opens o ≡ Some (End (Some c) writes flags)))
+    ↔ ((o : ℕ) × (member o (ends S) ≡ true) × (writes : Option ℕ) × (flags : ℕ) × (form : ChanKind) × (get S.opens o ≡ Some (End (Some c) writes flags form)))
 reader_lost_by S c =
     let reads = λ (o : ℕ). is_reader c (get S.opens o) in (
-      λ lost. let one = any_member reads (ends S) lost in let by = reads_it c (get S.opens one.0) one.2 in (one.0, one.1, by.0, by.1, by.2),
-      λ by. any_of_member reads (ends S) by.0 by.1 (ap (is_reader c) by.4 ∙ eq-eqb c c refl),
+      λ lost. let one = any_member reads (ends S) lost in let by = reads_it c (get S.opens one.0) one.2 in (one.0, one.1, by.0, by.1, by.2, by.3),
+      λ by. any_of_member reads (ends S) by.0 by.1 (ap (is_reader c) by.5 ∙ eq-eqb c c refl),
     )
 
 pub writer_lost_by : (S : State) (c : ℕ)
     → (loses_writer S (ends S) c ≡ true)
-    ↔ ((o : ℕ) × (member o (ends S) ≡ true) × (reads : Option ℕ) × (flags : ℕ) × (get S.opens o ≡ Some (End reads (Some c) flags)))
+    ↔ ((o : ℕ) × (member o (ends S) ≡ true) × (reads : Option ℕ) × (flags : ℕ) × (form : ChanKind) × (get S.opens o ≡ Some (End reads (Some c) flags form)))
 writer_lost_by S c =
     let writes = λ (o : ℕ). is_writer c (get S.opens o) in (
-      λ lost. let one = any_member writes (ends S) lost in let by = writes_it c (get S.opens one.0) one.2 in (one.0, one.1, by.0, by.1, by.2),
-      λ by. any_of_member writes (ends S) by.0 by.1 (ap (is_writer c) by.4 ∙ eq-eqb c c refl),
+      λ lost. let one = any_member writes (ends S) lost in let by = writes_it c (get S.opens one.0) one.2 in (one.0, one.1, by.0, by.1, by.2, by.3),
+      λ by. any_of_member writes (ends S) by.0 by.1 (ap (is_writer c) by.5 ∙ eq-eqb c c refl),
     )
 
 pub channel_after : (S : State) (ended : List ℕ) (c : ℕ)

@@ -136,7 +136,7 @@ module _ (key : List ℕ) (p t : ℕ) (table : Table) (v : View) (P : Outcome �
       checked_holds (bytes_of v.branch node) (fault_of (bytes_of v.branch node))
       (λ sound own there. begins node own (record { offset = offset; flags = flags; opened = refl; sound = sound }) there)
   exec_holds (Some (Directory node flags)) begins = badf
-  exec_holds (Some (End reads writes flags)) begins = badf
+  exec_holds (Some (End reads writes flags form)) begins = badf
   exec_holds (Some (Terminal which flags)) begins = badf
   exec_holds (Some (Process q object)) begins = badf
 
@@ -160,7 +160,7 @@ exec_reads key p t table S o (Some (File node offset flags)) =
     first_seen p (has_part (at_status p ∷ at_open o ∷ (behind S kind ++ [])) (at_proc p)) (get S.processes p) in
     λ i. exec_checked key p t table (bytes i) (own i) (fault_of (bytes i))
 exec_reads key p t table S o (Some (Directory node flags)) = refl
-exec_reads key p t table S o (Some (End reads writes flags)) = refl
+exec_reads key p t table S o (Some (End reads writes flags form)) = refl
 exec_reads key p t table S o (Some (Terminal which flags)) = refl
 exec_reads key p t table S o (Some (Process q object)) = refl
 

@@ -60,7 +60,7 @@ write_alike : (bytes : List ℕ) (at now : ℕ) (t u : Tree) (kind : Option Open
 write_alike bytes at now t u None seen = refl
 write_alike bytes at now t u (Some (File node offset flags)) seen = write_bytes_alike node now at t u bytes seen
 write_alike bytes at now t u (Some (Directory node flags)) seen = refl
-write_alike bytes at now t u (Some (End reads writes flags)) seen = refl
+write_alike bytes at now t u (Some (End reads writes flags form)) seen = refl
 write_alike bytes at now t u (Some (Terminal which flags)) seen = refl
 write_alike bytes at now t u (Some (Process p object)) seen = refl
 
@@ -75,7 +75,7 @@ write_is : (bytes : List ℕ) (at now : ℕ) (t : Tree) (kind : Option OpenKind)
 write_is bytes at now t None = refuses t None Badf badf_among_changes
 write_is bytes at now t (Some (File node offset flags)) = write_bytes_is t node offset flags now at bytes
 write_is bytes at now t (Some (Directory node flags)) = refuses t (Some (Directory node flags)) Badf badf_among_changes
-write_is bytes at now t (Some (End reads writes flags)) = refuses t (Some (End reads writes flags)) Badf badf_among_changes
+write_is bytes at now t (Some (End reads writes flags form)) = refuses t (Some (End reads writes flags form)) Badf badf_among_changes
 write_is bytes at now t (Some (Terminal which flags)) = refuses t (Some (Terminal which flags)) Badf badf_among_changes
 write_is bytes at now t (Some (Process p object)) = refuses t (Some (Process p object)) Badf badf_among_changes
 
@@ -91,7 +91,7 @@ read_alike : (n at : ℕ) (t u : Tree) (kind : Option OpenKind) → IsSeen t u k
 read_alike n at t u None seen = refl
 read_alike n at t u (Some (File node offset flags)) seen = ap (λ o. replies (content (read_bytes (bytes_in o) at n))) (sym seen)
 read_alike n at t u (Some (Directory node flags)) seen = refl
-read_alike n at t u (Some (End reads writes flags)) seen = refl
+read_alike n at t u (Some (End reads writes flags form)) seen = refl
 read_alike n at t u (Some (Terminal which flags)) seen = refl
 read_alike n at t u (Some (Process p object)) seen = refl
 
@@ -99,7 +99,7 @@ read_answers : (n at : ℕ) (t : Tree) (kind : Option OpenKind) → Answers (Bad
 read_answers n at t None = answers_refused (Badf ∷ []) Badf ([], [], refl)
 read_answers n at t (Some (File node offset flags)) = answers_done (Badf ∷ []) _ refl refl
 read_answers n at t (Some (Directory node flags)) = answers_refused (Badf ∷ []) Badf ([], [], refl)
-read_answers n at t (Some (End reads writes flags)) = answers_refused (Badf ∷ []) Badf ([], [], refl)
+read_answers n at t (Some (End reads writes flags form)) = answers_refused (Badf ∷ []) Badf ([], [], refl)
 read_answers n at t (Some (Terminal which flags)) = answers_refused (Badf ∷ []) Badf ([], [], refl)
 read_answers n at t (Some (Process p object)) = answers_refused (Badf ∷ []) Badf ([], [], refl)
 

@@ -175,7 +175,7 @@ file_there : (S : State) (kind : Option OpenKind) → ((k : OpenKind) → kind �
 file_there S None there = tt
 file_there S (Some (File node offset flags)) there = there (File node offset flags) refl
 file_there S (Some (Directory node flags)) there = tt
-file_there S (Some (End reads writes flags)) there = tt
+file_there S (Some (End reads writes flags form)) there = tt
 file_there S (Some (Terminal which flags)) there = tt
 file_there S (Some (Process p object)) there = tt
 
@@ -187,7 +187,7 @@ node_is_seen S (Some (Directory node flags)) q h =
     let same : at_node node ≡ q = same_part_is (at_node node) q (sym (or_false (same_part (at_node node) q)) ∙ h) in
     subst (λ part. has_part (node_parts (below (tree_of S) node)) part ≡ true) same
     (node_is_part node (below (tree_of S) node) (below_self (tree_of S) node))
-node_is_seen S (Some (End reads writes flags)) q h = absurd (not_true h)
+node_is_seen S (Some (End reads writes flags form)) q h = absurd (not_true h)
 node_is_seen S (Some (Terminal which flags)) q h = absurd (not_true h)
 node_is_seen S (Some (Process p object)) q h = absurd (not_true h)
 
@@ -218,7 +218,7 @@ allocate_alike size now t u None seen = refl
 allocate_alike size now t u (Some (File node offset flags)) seen =
     ap (λ o. unless_large size (becomes node o)) (sym (allocated_alike t u node now size seen))
 allocate_alike size now t u (Some (Directory node flags)) seen = refl
-allocate_alike size now t u (Some (End reads writes flags)) seen = refl
+allocate_alike size now t u (Some (End reads writes flags form)) seen = refl
 allocate_alike size now t u (Some (Terminal which flags)) seen = refl
 allocate_alike size now t u (Some (Process p object)) seen = refl
 
@@ -228,7 +228,7 @@ allocate_is size now t (Some (File node offset flags)) =
     either_change (nat_lt MOST_FILE_BYTES size) t (Some (File node offset flags)) Fbig _ fbig_among_changes
     (remakes t (Some (File node offset flags)) node (allocated t node now size) refl (λ file. allocated_reworks t node now size file))
 allocate_is size now t (Some (Directory node flags)) = refuses t (Some (Directory node flags)) Badf badf_among_changes
-allocate_is size now t (Some (End reads writes flags)) = refuses t (Some (End reads writes flags)) Badf badf_among_changes
+allocate_is size now t (Some (End reads writes flags form)) = refuses t (Some (End reads writes flags form)) Badf badf_among_changes
 allocate_is size now t (Some (Terminal which flags)) = refuses t (Some (Terminal which flags)) Badf badf_among_changes
 allocate_is size now t (Some (Process p object)) = refuses t (Some (Process p object)) Badf badf_among_changes
 
@@ -248,7 +248,7 @@ module _ (flags : ℕ) (stat : FileStat) where
   put_open_alike now t u (Some (Directory node f)) seen =
       ap (λ o. cond (has_size flags) (replies (refused Badf)) (becomes node o))
       (sym (put_times_alike flags stat now t u node (seen.nodes node (below_self t node))))
-  put_open_alike now t u (Some (End reads writes f)) seen = refl
+  put_open_alike now t u (Some (End reads writes f form)) seen = refl
   put_open_alike now t u (Some (Terminal which f)) seen = refl
   put_open_alike now t u (Some (Process p object)) seen = refl
 
@@ -260,7 +260,7 @@ module _ (flags : ℕ) (stat : FileStat) where
   put_open_is now t (Some (Directory node f)) =
       either_change (has_size flags) t (Some (Directory node f)) Badf _ badf_among_changes
       (remakes t (Some (Directory node f)) node (put_times flags stat now t node) refl (λ file. put_times_reworks flags stat now t node))
-  put_open_is now t (Some (End reads writes f)) = refuses t (Some (End reads writes f)) Badf badf_among_changes
+  put_open_is now t (Some (End reads writes f form)) = refuses t (Some (End reads writes f form)) Badf badf_among_changes
   put_open_is now t (Some (Terminal which f)) = refuses t (Some (Terminal which f)) Badf badf_among_changes
   put_open_is now t (Some (Process p object)) = refuses t (Some (Process p object)) Badf badf_among_changes
 

@@ -122,9 +122,9 @@ report_open_alike : (t u : Tree) (kind : Option OpenKind) → IsSeen t u kind �
 report_open_alike t u None seen = refl
 report_open_alike t u (Some (File node offset flags)) seen = report_alike t u node seen
 report_open_alike t u (Some (Directory node flags)) seen = report_alike t u node (seen.nodes node (below_self t node))
-report_open_alike t u (Some (End (Some reads) writes flags)) seen = refl
-report_open_alike t u (Some (End None (Some writes) flags)) seen = refl
-report_open_alike t u (Some (End None None flags)) seen = refl
+report_open_alike t u (Some (End (Some reads) writes flags form)) seen = refl
+report_open_alike t u (Some (End None (Some writes) flags form)) seen = refl
+report_open_alike t u (Some (End None None flags form)) seen = refl
 report_open_alike t u (Some (Terminal which flags)) seen = refl
 report_open_alike t u (Some (Process p object)) seen = refl
 
@@ -132,9 +132,9 @@ report_open_answers : (t : Tree) (kind : Option OpenKind) → Answers (Badf ∷ 
 report_open_answers t None = answers_refused (Badf ∷ []) Badf ([], [], refl)
 report_open_answers t (Some (File node offset flags)) = report_answers (Badf ∷ []) ([], [], refl) node (get t.nodes node)
 report_open_answers t (Some (Directory node flags)) = report_answers (Badf ∷ []) ([], [], refl) node (get t.nodes node)
-report_open_answers t (Some (End (Some reads) writes flags)) = answers_done (Badf ∷ []) _ refl refl
-report_open_answers t (Some (End None (Some writes) flags)) = answers_done (Badf ∷ []) _ refl refl
-report_open_answers t (Some (End None None flags)) = answers_refused (Badf ∷ []) Badf ([], [], refl)
+report_open_answers t (Some (End (Some reads) writes flags form)) = answers_done (Badf ∷ []) _ refl refl
+report_open_answers t (Some (End None (Some writes) flags form)) = answers_done (Badf ∷ []) _ refl refl
+report_open_answers t (Some (End None None flags form)) = answers_refused (Badf ∷ []) Badf ([], [], refl)
 report_open_answers t (Some (Terminal which flags)) = answers_done (Badf ∷ []) _ refl refl
 report_open_answers t (Some (Process p object)) = answers_done (Badf ∷ []) _ refl refl
 
@@ -197,7 +197,7 @@ list_open_alike n position t u None seen = refl
 list_open_alike n position t u (Some (File node offset flags)) seen = refl
 list_open_alike n position t u (Some (Directory node flags)) seen =
     ap (list_names u n position) (sym (seen.names node (below_self t node))) ∙ list_alike t u node seen n position (get t.names node) refl
-list_open_alike n position t u (Some (End reads writes flags)) seen = refl
+list_open_alike n position t u (Some (End reads writes flags form)) seen = refl
 list_open_alike n position t u (Some (Terminal which flags)) seen = refl
 list_open_alike n position t u (Some (Process p object)) seen = refl
 
@@ -209,7 +209,7 @@ list_open_answers : (n position : ℕ) (t : Tree) (kind : Option OpenKind) → A
 list_open_answers n position t None = answers_refused (Badf ∷ []) Badf ([], [], refl)
 list_open_answers n position t (Some (File node offset flags)) = answers_refused (Badf ∷ []) Badf ([], [], refl)
 list_open_answers n position t (Some (Directory node flags)) = list_answers t n position (get t.names node)
-list_open_answers n position t (Some (End reads writes flags)) = answers_refused (Badf ∷ []) Badf ([], [], refl)
+list_open_answers n position t (Some (End reads writes flags form)) = answers_refused (Badf ∷ []) Badf ([], [], refl)
 list_open_answers n position t (Some (Terminal which flags)) = answers_refused (Badf ∷ []) Badf ([], [], refl)
 list_open_answers n position t (Some (Process p object)) = answers_refused (Badf ∷ []) Badf ([], [], refl)
 

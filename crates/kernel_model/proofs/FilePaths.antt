@@ -48,7 +48,7 @@ pub walked_reads : (t u : Tree) (mode : WalkMode) (path : List ℕ) (kind : Opti
 walked_reads t u mode path None seen = refl
 walked_reads t u mode path (Some (File node offset flags)) seen = refl
 walked_reads t u mode path (Some (Directory node flags)) seen = walk_reads t u mode path node seen
-walked_reads t u mode path (Some (End reads writes flags)) seen = refl
+walked_reads t u mode path (Some (End reads writes flags form)) seen = refl
 walked_reads t u mode path (Some (Terminal which flags)) seen = refl
 walked_reads t u mode path (Some (Process p object)) seen = refl
 
@@ -103,7 +103,7 @@ module _ (goes : Tree → ℕ → Outcome) (alike : GoesAlike goes) where
   at_walked_reads t u mode path (Some (Directory node flags)) seen =
       ap (at_walked (goes u)) (walk_reads t u mode path node seen)
       ∙ at_walked_alike t u node (walked_in t mode path node) seen (leads_below t mode path node)
-  at_walked_reads t u mode path (Some (End reads writes flags)) seen = refl
+  at_walked_reads t u mode path (Some (End reads writes flags form)) seen = refl
   at_walked_reads t u mode path (Some (Terminal which flags)) seen = refl
   at_walked_reads t u mode path (Some (Process p object)) seen = refl
 
@@ -128,7 +128,7 @@ found_is_seen S mode path None q here = absurd (not_true here)
 found_is_seen S mode path (Some (File node offset flags)) q here = absurd (not_true here)
 found_is_seen S mode path (Some (Directory node flags)) q here =
     found_is_below (below (tree_of S) node) (walked_in (tree_of S) mode path node) q (leads_below (tree_of S) mode path node) here
-found_is_seen S mode path (Some (End reads writes flags)) q here = absurd (not_true here)
+found_is_seen S mode path (Some (End reads writes flags form)) q here = absurd (not_true here)
 found_is_seen S mode path (Some (Terminal which flags)) q here = absurd (not_true here)
 found_is_seen S mode path (Some (Process p object)) q here = absurd (not_true here)
 
@@ -208,7 +208,7 @@ walked_plainly t mode path None = badf_among
 walked_plainly t mode path (Some (File node offset flags)) = badf_among
 walked_plainly t mode path (Some (Directory node flags)) =
     unless_plainly (nat_lt longest_path (length path)) (not (is_utf8 path)) (member 0 path) (walk_of (finds t) mode node path)
-walked_plainly t mode path (Some (End reads writes flags)) = badf_among
+walked_plainly t mode path (Some (End reads writes flags form)) = badf_among
 walked_plainly t mode path (Some (Terminal which flags)) = badf_among
 walked_plainly t mode path (Some (Process p object)) = badf_among
 

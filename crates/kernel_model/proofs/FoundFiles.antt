@@ -12,6 +12,7 @@ use Rattle.abi_base.specs.Rights.{Has}
 use Rattle.abi_base.specs.declared.rights.TheConstants.Rights.{FD_READ, FD_SEEK, FD_WRITE, FILE_ALLOCATE, FILE_READDIR, FILE_READLINK, FILE_STAT_FGET, FILE_STAT_FPUT_SIZE, FILE_STAT_FPUT_TIMES, FILE_STAT_GET, FILE_STAT_PUT_TIMES, NONE}
 use Rattle.abi_structures.specs.declared.structures.FdStat.{FdStat}
 use Rattle.abi_structures.specs.declared.structures.FileStat.{FileStat}
+use Rattle.abi_types.specs.declared.chan_kind.ChanKind.{ChanKind}
 use Rattle.abi_types.specs.declared.call.Lookup.{Lookup}
 use Rattle.abi_types.specs.declared.descriptor.Descriptor.{Descriptor}
 use Rattle.abi_types.specs.declared.needed.Needed.{Needed}
@@ -100,11 +101,11 @@ large_found : (Q : Type 0) (size : ℕ) (o : Outcome) → OnlyWhere Q o → Only
 large_found Q size o found = either (OnlyWhere Q) (nat_lt MOST_FILE_BYTES size) _ o (λ e. cc) found
 
 -- an end reads or writes a channel
-end_found : (t : Tree) (reads writes : Option ℕ) (flags : ℕ) → (is_some reads || is_some writes) ≡ true
-    → OnlyWhere ⊥ (report_open t (Some (End reads writes flags)))
-end_found t (Some r) writes flags some = λ e. cc
-end_found t None (Some w) flags some = λ e. cc
-end_found t None None flags some = absurd (not_true some)
+end_found : (t : Tree) (reads writes : Option ℕ) (flags : ℕ) (form : ChanKind) → (is_some reads || is_some writes) ≡ true
+    → OnlyWhere ⊥ (report_open t (Some (End reads writes flags form)))
+end_found t (Some r) writes flags form some = λ e. cc
+end_found t None (Some w) flags form some = λ e. cc
+end_found t None None flags form some = absurd (not_true some)
 
 report_found : (n : ℕ) (o : Option Node) → is_some o ≡ true → OnlyWhere ⊥ (report_node n o)
 report_found n None there = absurd (not_true there)
@@ -165,7 +166,7 @@ module _ (S : State) (nearly : IsNearlyValid S) where
       by_kind S (λ k. OnlyWhere ⊥ (report_open (tree_of S) (Some k)))
       (λ node offset flags file. report_found node (get S.nodes node) (file_there (get S.nodes node) file))
       (λ node flags directory. report_found node (get S.nodes node) (directory_there (get S.nodes node) directory))
-      (λ reads writes flags behind. end_found (tree_of S) reads writes flags behind.0) (λ which flags stream. λ e. cc) (λ p object. λ e. cc) kind g.behind)
+      (λ reads writes flags form behind. end_found (tree_of S) reads writes flags form behind.0) (λ which flags stream. λ e. cc) (λ p object. λ e. cc) kind g.behind)
 
   pub file_readdir_found : (fd n cookie : ℕ) → NeverBadf ⊥ S (file_readdir fd n cookie)
   file_readdir_found fd n cookie =
@@ -258,7 +259,7 @@ module _ (S : State) (nearly : IsNearlyValid S) (fd : ℕ) (stat : FileStat) (fl
       directory_put Q (bit_and flags 16 == 0) (bit_and flags 15 == 0) _ _
       (λ size. zero_or_one (bit_at (rights_of type.Directory) 20) refl (rights 20 (omega arith) size))
       (reworked_found Q t (put_times flags stat now t node) node (put_times_reworks flags stat now t node) (directory_there (get S.nodes node) directory)))
-      (λ reads writes open_flags behind rights _.
+      (λ reads writes open_flags form behind rights _.
       let none = nothing_asked (bit_and flags 16 == 0) (bit_and flags 15 == 0)
       (λ size. no_end reads writes 20 refl refl refl (rights 20 (omega arith) size))
       (λ time. no_end reads writes 21 refl refl refl (rights 21 (omega arith) time)) in

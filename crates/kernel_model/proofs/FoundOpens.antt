@@ -21,6 +21,7 @@ use Rattle.abi_base.proofs.Bits.{has-meet, has-minus}
 use Rattle.abi_base.specs.Grants.{stream_rights}
 use Rattle.abi_base.specs.Rights.{Has, has_all, minus_of}
 use Rattle.abi_base.specs.declared.errno.Errno.TheVariants.{Badf}
+use Rattle.abi_types.specs.declared.chan_kind.ChanKind.{ChanKind}
 use Rattle.abi_types.specs.OpenTypes.{rights_of}
 use Rattle.abi_types.specs.declared.constants.Constants.{Constants}
 use Rattle.abi_types.specs.declared.descriptor.Descriptor.{Descriptor}
@@ -91,10 +92,10 @@ zero_or_one x zero one = omega (arith, zero, one)
 pub fits_small : (kind : OpenKind) → fits kind < 2 ^ 64
 fits_small (File node offset flags) = omega arith
 fits_small (Directory node flags) = omega arith
-fits_small (End None None flags) = omega arith
-fits_small (End None (Some writes) flags) = omega arith
-fits_small (End (Some reads) None flags) = omega arith
-fits_small (End (Some reads) (Some writes) flags) = omega arith
+fits_small (End None None flags form) = omega arith
+fits_small (End None (Some writes) flags form) = omega arith
+fits_small (End (Some reads) None flags form) = omega arith
+fits_small (End (Some reads) (Some writes) flags form) = omega arith
 fits_small (Terminal which flags) =
     elim (which == 0) as (λ b. cond b (stream_rights 0) (stream_rights 1) < 2 ^ 64) [ true ↦ omega arith | false ↦ omega arith ]
 fits_small (Process p object) = omega arith
@@ -146,12 +147,12 @@ module _ {S : State} {row : Needed} {kind : OpenKind} (g : IsGranted S row kind)
 -- the open of a valid state is a file, a directory, an end of channels, a standard stream or a process
 pub by_kind : (S : State) (P : OpenKind → Type 0) → ((node offset flags : ℕ) → is_file (tree_of S) node ≡ true → P (File node offset flags))
     → ((node flags : ℕ) → is_directory (tree_of S) node ≡ true → P (Directory node flags))
-    → ((reads writes : Option ℕ) (flags : ℕ) → HasBehind S (End reads writes flags) → P (End reads writes flags))
+    → ((reads writes : Option ℕ) (flags : ℕ) (form : ChanKind) → HasBehind S (End reads writes flags form) → P (End reads writes flags form))
     → ((which flags : ℕ) → IsSome (get S.terms which) → P (Terminal which flags)) → ((p object : ℕ) → P (Process p object)) → (kind : OpenKind)
     → HasBehind S kind → P kind
 by_kind S P file directory end stream process (File node offset flags) behind = file node offset flags behind
 by_kind S P file directory end stream process (Directory node flags) behind = directory node flags behind
-by_kind S P file directory end stream process (End reads writes flags) behind = end reads writes flags behind
+by_kind S P file directory end stream process (End reads writes flags form) behind = end reads writes flags form behind
 by_kind S P file directory end stream process (Terminal which flags) behind = stream which flags behind.0
 by_kind S P file directory end stream process (Process p object) behind = process p object
 
@@ -191,7 +192,7 @@ module _ (S : State) (P : OpenKind → Type 0) (k : ℕ) where
   file_alone of file =
       by_kind S (λ kind. Has (fits kind) k → P kind) (λ node offset flags there _. file node offset flags there)
       (λ node flags _ has. absurd (zero_or_one (bit_at (rights_of type.Directory) k) of.1 has))
-      (λ reads writes flags _ has. absurd (no_end reads writes k of.0.1 of.0.2 of.0.4 has))
+      (λ reads writes flags form _ has. absurd (no_end reads writes k of.0.1 of.0.2 of.0.4 has))
       (λ which flags _ has. absurd (no_stream which k of.0.1 of.0.2 has)) (λ p object has. absurd (zero_or_one (bit_at (rights_of type.Process) k) of.0.3 has))
 
   -- and one with a right of directories alone is a directory
@@ -200,7 +201,7 @@ module _ (S : State) (P : OpenKind → Type 0) (k : ℕ) where
   directory_alone of directory =
       by_kind S (λ kind. Has (fits kind) k → P kind)
       (λ node offset flags _ has. absurd (zero_or_one (bit_at (rights_of type.File) k) of.1 has))
-      (λ node flags there _. directory node flags there) (λ reads writes flags _ has. absurd (no_end reads writes k of.0.1 of.0.2 of.0.4 has))
+      (λ node flags there _. directory node flags there) (λ reads writes flags form _ has. absurd (no_end reads writes k of.0.1 of.0.2 of.0.4 has))
       (λ which flags _ has. absurd (no_stream which k of.0.1 of.0.2 has))
       (λ p object has. absurd (zero_or_one (bit_at (rights_of type.Process) k) of.0.3 has))
 

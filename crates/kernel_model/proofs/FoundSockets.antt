@@ -50,9 +50,9 @@ module _ (S : State) (nearly : IsNearlyValid S) where
       → OnlyWhere ⊥ (receive_open p table (whole (tick S)) n room flags (Some kind))
   receive_open_found p table n room flags (File node offset mode) behind = λ e. cc
   receive_open_found p table n room flags (Directory node mode) behind = λ e. cc
-  receive_open_found p table n room flags (End None writes mode) behind = λ e. cc
-  receive_open_found p table n room flags (End (Some r) None mode) behind = λ e. cc
-  receive_open_found p table n room flags (End (Some r) (Some w) mode) behind =
+  receive_open_found p table n room flags (End None writes mode form) behind = λ e. cc
+  receive_open_found p table n room flags (End (Some r) None mode form) behind = λ e. cc
+  receive_open_found p table n room flags (End (Some r) (Some w) mode form) behind =
       let has : HasReader S.chans (Some r) = behind.1 in
       subst (λ x. OnlyWhere ⊥ (receive_from p table n room flags (is_nonblocking mode) r x)) (sym has.1)
       (received_found (must_wait_by flags n has.0) (is_nonblocking mode) (peeks flags) p table room r (pull n has.0))
@@ -63,9 +63,9 @@ module _ (S : State) (nearly : IsNearlyValid S) where
       → OnlyWhere ⊥ (send_open (whole (tick S)) bytes carried (Some kind))
   send_open_found bytes carried (File node offset mode) behind = λ e. cc
   send_open_found bytes carried (Directory node mode) behind = λ e. cc
-  send_open_found bytes carried (End None writes mode) behind = λ e. cc
-  send_open_found bytes carried (End (Some r) None mode) behind = λ e. cc
-  send_open_found bytes carried (End (Some r) (Some w) mode) behind =
+  send_open_found bytes carried (End None writes mode form) behind = λ e. cc
+  send_open_found bytes carried (End (Some r) None mode form) behind = λ e. cc
+  send_open_found bytes carried (End (Some r) (Some w) mode form) behind =
       send_found sent_reply (λ count. (refl, refl)) S mode bytes carried (Some w) behind.2 refl
   send_open_found bytes carried (Terminal which mode) behind = λ e. cc
   send_open_found bytes carried (Process q object) behind = λ e. cc
@@ -73,9 +73,9 @@ module _ (S : State) (nearly : IsNearlyValid S) where
   shut_open_found : (how : ℕ) (kind : OpenKind) → OnlyWhere ⊥ (shut_open (whole (tick S)) how (Some kind))
   shut_open_found how (File node offset mode) = λ e. cc
   shut_open_found how (Directory node mode) = λ e. cc
-  shut_open_found how (End None writes mode) = λ e. cc
-  shut_open_found how (End (Some r) None mode) = λ e. cc
-  shut_open_found how (End (Some r) (Some w) mode) = λ e. cc
+  shut_open_found how (End None writes mode form) = λ e. cc
+  shut_open_found how (End (Some r) None mode form) = λ e. cc
+  shut_open_found how (End (Some r) (Some w) mode form) = λ e. cc
   shut_open_found how (Terminal which mode) = λ e. cc
   shut_open_found how (Process q object) = λ e. cc
 

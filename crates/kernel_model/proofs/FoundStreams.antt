@@ -110,7 +110,7 @@ module _ (S : State) (nearly : IsNearlyValid S) where
       by_kind S (λ k. Has (fits k) 6 → OnlyWhere ⊥ (write_open now (whole (tick S)) bytes o (Some k)))
       (λ node offset flags file right. write_found (tree_of S) node flags now (write_place (tree_of S) node offset flags) bytes)
       (λ node flags directory right. absurd (zero_or_one (bit_at (rights_of type.Directory) 6) refl right))
-      (λ reads writes flags behind right.
+      (λ reads writes flags form behind right.
       send_found written_reply (λ count. (refl, refl)) S flags bytes [] writes behind.2 (writes_one reads writes behind.0 right))
       (λ which flags stream right. write_term_found bytes which (get S.terms which) stream)
       (λ p object right. absurd (zero_or_one (bit_at (rights_of type.Process) 6) refl right)) kind g.behind
@@ -123,7 +123,7 @@ module _ (S : State) (nearly : IsNearlyValid S) where
       by_kind S (λ k. Has (fits k) 1 → OnlyWhere ⊥ (read_open (whole (tick S)) n o (Some k)))
       (λ node offset flags file right. λ e. cc)
       (λ node flags directory right. absurd (zero_or_one (bit_at (rights_of type.Directory) 1) refl right))
-      (λ reads writes flags behind right. read_end_found S n flags reads behind.1 (reads_one reads writes right))
+      (λ reads writes flags form behind right. read_end_found S n flags reads behind.1 (reads_one reads writes right))
       (λ which flags stream right. read_term_found n which (get S.terms which) stream)
       (λ p object right. absurd (zero_or_one (bit_at (rights_of type.Process) 1) refl right)) kind g.behind
       (granted_base g 1 (omega arith) refl refl))

@@ -43,7 +43,7 @@ abbrev pub HasBelow : Tree → Option OpenKind → ℕ → Type 0
 HasBelow t None d = ⊥
 HasBelow t (Some (File node offset flags)) d = ⊥
 HasBelow t (Some (Directory node flags)) d = member d (below t node) ≡ true
-HasBelow t (Some (End reads writes flags)) d = ⊥
+HasBelow t (Some (End reads writes flags form)) d = ⊥
 HasBelow t (Some (Terminal which flags)) d = ⊥
 HasBelow t (Some (Process p object)) d = ⊥
 
@@ -97,7 +97,7 @@ walks_below t mode path None = tt
 walks_below t mode path (Some (File node offset flags)) = tt
 walks_below t mode path (Some (Directory node flags)) =
     walk_is_below t node flags (walked t mode path (Some (Directory node flags))) (leads_below t mode path node)
-walks_below t mode path (Some (End reads writes flags)) = tt
+walks_below t mode path (Some (End reads writes flags form)) = tt
 walks_below t mode path (Some (Terminal which flags)) = tt
 walks_below t mode path (Some (Process p object)) = tt
 

@@ -40,7 +40,7 @@ map_alike place length offset t u None seen = refl
 map_alike place length offset t u (Some (File node at flags)) seen =
     ap (λ o. replies (placed_with place (read_bytes (bytes_in o) offset (page_bytes length)))) (sym seen)
 map_alike place length offset t u (Some (Directory node flags)) seen = refl
-map_alike place length offset t u (Some (End reads writes flags)) seen = refl
+map_alike place length offset t u (Some (End reads writes flags form)) seen = refl
 map_alike place length offset t u (Some (Terminal which flags)) seen = refl
 map_alike place length offset t u (Some (Process p object)) seen = refl
 
@@ -55,7 +55,7 @@ map_answers : (place : Place) (length offset : ℕ) (t : Tree) (kind : Option Op
 map_answers place length offset t None = answers_refused (map_errors place) Badf ([], _, refl)
 map_answers place length offset t (Some (File node at flags)) = placed_answers place (bytes_at t node offset (page_bytes length))
 map_answers place length offset t (Some (Directory node flags)) = answers_refused (map_errors place) Badf ([], _, refl)
-map_answers place length offset t (Some (End reads writes flags)) = answers_refused (map_errors place) Badf ([], _, refl)
+map_answers place length offset t (Some (End reads writes flags form)) = answers_refused (map_errors place) Badf ([], _, refl)
 map_answers place length offset t (Some (Terminal which flags)) = answers_refused (map_errors place) Badf ([], _, refl)
 map_answers place length offset t (Some (Process p object)) = answers_refused (map_errors place) Badf ([], _, refl)
 

@@ -11,6 +11,7 @@ use Rattle.std.specs.FinMap.{get, insert}
 use Rattle.std.specs.List.{AllByRecursion}
 use Rattle.abi_base.specs.declared.errno.Errno.TheVariants.{Fbig}
 use Rattle.abi_structures.specs.declared.structures.FdStat.{FdStat}
+use Rattle.abi_types.specs.declared.chan_kind.ChanKind.{ChanKind}
 use Rattle.abi_types.specs.Families.{is_anonymous}
 use Rattle.abi_types.specs.declared.call.Call.{Call}
 use Rattle.abi_types.specs.declared.call.Call.TheVariants as call
@@ -84,14 +85,14 @@ use Rattle.kernel_model.proofs.Valids.{get_released, kept_some, same_value, tick
 pub of_same_itself : (kind : OpenKind) → IsOfSame kind kind
 of_same_itself (File node offset flags) = refl
 of_same_itself (Directory node flags) = refl
-of_same_itself (End reads writes flags) = (refl, refl)
+of_same_itself (End reads writes flags form) = (refl, refl, refl)
 of_same_itself (Terminal which flags) = refl
 of_same_itself (Process p object) = (refl, refl)
 
 of_same_with_flags : (kind : OpenKind) (new : ℕ) → IsOfSame kind (with_flags kind new)
 of_same_with_flags (File node offset flags) new = refl
 of_same_with_flags (Directory node flags) new = refl
-of_same_with_flags (End reads writes flags) new = (refl, refl)
+of_same_with_flags (End reads writes flags form) new = (refl, refl, refl)
 of_same_with_flags (Terminal which flags) new = refl
 of_same_with_flags (Process p object) new = (refl, refl)
 
@@ -99,9 +100,10 @@ of_same_with_flags (Process p object) new = (refl, refl)
 pub of_same_through : (a b c : OpenKind) → IsOfSame a b → IsOfSame b c → IsOfSame a c
 of_same_through (File n offset flags) (File m other_offset other_flags) c h i = subst (λ (k : ℕ). IsOfSame (File k offset flags) c) (sym h) i
 of_same_through (Directory n flags) (Directory m other_flags) c h i = subst (λ (k : ℕ). IsOfSame (Directory k flags) c) (sym h) i
-of_same_through (End reads writes flags) (End other_reads other_writes other_flags) c h i =
-    subst (λ (r : Option ℕ). IsOfSame (End r writes flags) c) (sym h.0)
-    (subst (λ (w : Option ℕ). IsOfSame (End other_reads w flags) c) (sym h.1) i)
+of_same_through (End reads writes flags form) (End other_reads other_writes other_flags other_form) c h i =
+    subst (λ (r : Option ℕ). IsOfSame (End r writes flags form) c) (sym h.0)
+    (subst (λ (w : Option ℕ). IsOfSame (End other_reads w flags form) c) (sym h.1)
+    (subst (λ (k : ChanKind). IsOfSame (End other_reads other_writes flags k) c) (sym h.2) i))
 of_same_through (Terminal which flags) (Terminal other other_flags) c h i = subst (λ (k : ℕ). IsOfSame (Terminal k flags) c) (sym h) i
 of_same_through (Process p object) (Process q other) c h i =
     subst (λ (k : ℕ). IsOfSame (Process k object) c) (sym h.0) (subst (λ (m : ℕ). IsOfSame (Process q m) c) (sym h.1) i)
@@ -279,9 +281,9 @@ send_open_keeps : (S : State) (v : View) (bytes : List ℕ) (carried : List Desc
 send_open_keeps S v bytes carried None = tt
 send_open_keeps S v bytes carried (Some (File node offset flags)) = tt
 send_open_keeps S v bytes carried (Some (Directory node flags)) = tt
-send_open_keeps S v bytes carried (Some (End None writes flags)) = tt
-send_open_keeps S v bytes carried (Some (End (Some r) None flags)) = tt
-send_open_keeps S v bytes carried (Some (End (Some r) (Some w) flags)) = send_keeps S sent_reply v flags bytes carried (Some w)
+send_open_keeps S v bytes carried (Some (End None writes flags form)) = tt
+send_open_keeps S v bytes carried (Some (End (Some r) None flags form)) = tt
+send_open_keeps S v bytes carried (Some (End (Some r) (Some w) flags form)) = send_keeps S sent_reply v flags bytes carried (Some w)
 send_open_keeps S v bytes carried (Some (Terminal which flags)) = tt
 send_open_keeps S v bytes carried (Some (Process p object)) = tt
 
@@ -307,7 +309,7 @@ receive_at_keeps : (S : State) (p : ℕ) (table : Table) (n room flags : ℕ) (v
 receive_at_keeps S p table n room flags v None = tt
 receive_at_keeps S p table n room flags v (Some d) =
     receive_holds p table v n room flags (λ (x : Outcome). AllKeep S x.updates) (λ errno here. tt) tt (λ bytes. tt) (v.opened d.id)
-    (λ c w mode channel installed is there made. (tt, (tt, tt)))
+    (λ c w mode form channel installed is there made. (tt, (tt, tt)))
 
 shut_keeps : (S : State) (first : Bool) (r : ℕ) (x : Option Channel) (second : Bool) (w : ℕ) (y : Option Channel)
     → AllKeep S (shut_if first with_reader_shut r x ++ shut_if second with_writer_shut w y)
@@ -325,9 +327,9 @@ shut_open_keeps : (how : ℕ) → MeaningKeeps (shutting how)
 shut_open_keeps how now S v o None there = tt
 shut_open_keeps how now S v o (Some (File node offset flags)) there = tt
 shut_open_keeps how now S v o (Some (Directory node flags)) there = tt
-shut_open_keeps how now S v o (Some (End None writes flags)) there = tt
-shut_open_keeps how now S v o (Some (End (Some r) None flags)) there = tt
-shut_open_keeps how now S v o (Some (End (Some r) (Some w) flags)) there =
+shut_open_keeps how now S v o (Some (End None writes flags form)) there = tt
+shut_open_keeps how now S v o (Some (End (Some r) None flags form)) there = tt
+shut_open_keeps how now S v o (Some (End (Some r) (Some w) flags form)) there =
     shut_keeps S (not (bit_and how 1 == 0)) r (v.channel r) (not (bit_and how 2 == 0)) w (v.channel w)
 shut_open_keeps how now S v o (Some (Terminal which flags)) there = tt
 shut_open_keeps how now S v o (Some (Process p object)) there = tt
@@ -359,7 +361,7 @@ write_keeps bytes now S v o (Some (Terminal which flags)) there = write_term_kee
 write_keeps bytes now S v o (Some (File node offset flags)) there =
     write_from_keeps S v.branch o node offset flags now (write_place v.branch node offset flags) bytes there
 write_keeps bytes now S v o (Some (Directory node flags)) there = tt
-write_keeps bytes now S v o (Some (End reads writes flags)) there = send_keeps S written_reply v flags bytes [] writes
+write_keeps bytes now S v o (Some (End reads writes flags form)) there = send_keeps S written_reply v flags bytes [] writes
 write_keeps bytes now S v o (Some (Process p object)) there = tt
 
 read_term_keeps : (S : State) (n which : ℕ) (stream : Option Stream) → AllKeep S (read_term n which stream).updates
@@ -371,7 +373,7 @@ read_keeps n now S v o None there = tt
 read_keeps n now S v o (Some (Terminal which flags)) there = read_term_keeps S n which (v.term which)
 read_keeps n now S v o (Some (File node offset flags)) there = (moved_keeps S o (File node offset flags) (File node _ flags) there refl, tt)
 read_keeps n now S v o (Some (Directory node flags)) there = tt
-read_keeps n now S v o (Some (End reads writes flags)) there = read_end_keeps S v n flags reads
+read_keeps n now S v o (Some (End reads writes flags form)) there = read_end_keeps S v n flags reads
 read_keeps n now S v o (Some (Process p object)) there = tt
 
 seek_to_keeps : (S : State) (o node offset flags : ℕ) (place : Option ℕ) → get S.opens o ≡ Some (File node offset flags)
@@ -385,7 +387,7 @@ seek_keeps bits whence now S v o (Some (Terminal which flags)) there = tt
 seek_keeps bits whence now S v o (Some (File node offset flags)) there =
     seek_to_keeps S o node offset flags (sought v.branch node offset bits whence) there
 seek_keeps bits whence now S v o (Some (Directory node flags)) there = tt
-seek_keeps bits whence now S v o (Some (End reads writes flags)) there = tt
+seek_keeps bits whence now S v o (Some (End reads writes flags form)) there = tt
 seek_keeps bits whence now S v o (Some (Process p object)) there = tt
 
 -- ---- calls on descriptors themselves

@@ -127,7 +127,7 @@ module _ (oflags flags : ℕ) (path : List ℕ) (now new : ℕ) (t u : Tree) whe
   opens_alike mode (Some (Directory node f)) seen =
       subst (λ w. OpensAlike (open_walked oflags flags path now new u w) (open_walked oflags flags path now new t (walked_in t mode path node)))
       (sym (walk_reads t u mode path node seen)) (ends_alike node (walked_in t mode path node) seen (leads_below t mode path node))
-  opens_alike mode (Some (End reads writes f)) seen = refl
+  opens_alike mode (Some (End reads writes f form)) seen = refl
   opens_alike mode (Some (Terminal which f)) seen = refl
   opens_alike mode (Some (Process p object)) seen = refl
 

@@ -311,7 +311,7 @@ open_own S p table stat free o =
 there_behind : (S : State) (u : Tree) (kind : OpenKind) → IsThere u kind → HasBehind (with_tree u S) kind
 there_behind S u (File n offset flags) h = h
 there_behind S u (Directory n flags) h = h
-there_behind S u (End reads writes flags) h = absurd h
+there_behind S u (End reads writes flags form) h = absurd h
 there_behind S u (Terminal which flags) h = absurd h
 there_behind S u (Process q object) h = absurd h
 
@@ -319,7 +319,7 @@ there_behind S u (Process q object) h = absurd h
 there_sole : (opens : FinMap nat_cmp OpenKind) (o : ℕ) (u : Tree) (kind : OpenKind) → IsThere u kind → AreSole opens → AreSole (insert opens o kind)
 there_sole opens o u (File n offset flags) h sole = more_sole opens o (File n offset flags) (λ k. (refl, refl, refl)) sole
 there_sole opens o u (Directory n flags) h sole = more_sole opens o (Directory n flags) (λ k. (refl, refl, refl)) sole
-there_sole opens o u (End reads writes flags) h sole = absurd h
+there_sole opens o u (End reads writes flags form) h sole = absurd h
 there_sole opens o u (Terminal which flags) h sole = absurd h
 there_sole opens o u (Process q object) h sole = absurd h
 

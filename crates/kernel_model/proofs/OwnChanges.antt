@@ -169,7 +169,7 @@ module _ (S : State) (p : ℕ) (own new : ProcessState) (there : get S.processes
   behind_process : (kind : OpenKind) → HasBehind S kind → HasBehind after kind
   behind_process (File q offset flags) h = h
   behind_process (Directory q flags) h = h
-  behind_process (End reads writes flags) h = h
+  behind_process (End reads writes flags form) h = h
   behind_process (Terminal which flags) h = h
   behind_process (Process q object) h = h
 

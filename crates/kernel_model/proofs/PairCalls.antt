@@ -8,6 +8,7 @@ use Rattle.std.specs.FinMap.{FinMap, empty, get, get-empty, insert}
 use Rattle.std.specs.Option.{option_map}
 use Rattle.abi_base.specs.declared.errno.Errno.{Errno}
 use Rattle.abi_base.specs.declared.errno.Errno.TheVariants.{Again, Mfile, Notsup}
+use Rattle.abi_types.specs.declared.chan_kind.ChanKind.TheVariants as chan_kind
 use Rattle.abi_types.specs.declared.descriptor.Descriptor.{Descriptor}
 use Rattle.abi_types.specs.declared.open_kind.OpenKind.{OpenKind}
 use Rattle.abi_types.specs.declared.open_kind.OpenKind.TheVariants.{End}
@@ -189,16 +190,16 @@ module _ (S : State) (p : ℕ) (own : ProcessState) (there : get S.processes p �
 no_reader_yet : (S : State) (v : IsNearlyValid S) (c : ℕ) → get S.chans c ≡ None → (r : ℕ) → is_reader c (get S.opens r) ≡ true → ⊥
 no_reader_yet S v c none r reads = found (get S.opens r) refl reads where
   found : (o : Option OpenKind) → get S.opens r ≡ o → is_reader c o ≡ true → ⊥
-  found (Some (End (Some e) writes flags)) at is =
-      let has = (v.behind r (End (Some e) writes flags) at).1 in
+  found (Some (End (Some e) writes flags form)) at is =
+      let has = (v.behind r (End (Some e) writes flags form) at).1 in
       none_is_no has.0 (sym none ∙ subst (λ k. get S.chans k ≡ Some has.0) (eqb-true e c is) has.1)
   found o at is = not_true is
 
 no_writer_yet : (S : State) (v : IsNearlyValid S) (c : ℕ) → get S.chans c ≡ None → (r : ℕ) → is_writer c (get S.opens r) ≡ true → ⊥
 no_writer_yet S v c none r writes = found (get S.opens r) refl writes where
   found : (o : Option OpenKind) → get S.opens r ≡ o → is_writer c o ≡ true → ⊥
-  found (Some (End reads (Some e) flags)) at is =
-      let has = (v.behind r (End reads (Some e) flags) at).2 in
+  found (Some (End reads (Some e) flags form)) at is =
+      let has = (v.behind r (End reads (Some e) flags form) at).2 in
       none_is_no has.0 (sym none ∙ subst (λ k. get S.chans k ≡ Some has.0) (eqb-true e c is) has.1)
   found o at is = not_true is
 
@@ -263,10 +264,10 @@ module _ (S : State) (p t : ℕ) (own : ProcessState) (there : get S.processes p
     pipe_second = number S p own there v 2 can 3
 
     abbrev pipe_reader : OpenKind
-    pipe_reader = End (Some pipe_channel) None 0
+    pipe_reader = End (Some pipe_channel) None 0 chan_kind.Stream
 
     abbrev pipe_writer : OpenKind
-    pipe_writer = End None (Some pipe_channel) 0
+    pipe_writer = End None (Some pipe_channel) 0 chan_kind.Stream
 
     abbrev pipe_opens : FinMap nat_cmp OpenKind
     pipe_opens = insert (insert S.opens pipe_first pipe_reader) pipe_second pipe_writer
@@ -348,10 +349,10 @@ module _ (S : State) (p t : ℕ) (own : ProcessState) (there : get S.processes p
     four = number S p own there v 3 can 4
 
     abbrev left_end : OpenKind
-    left_end = End (Some one) (Some two) 0
+    left_end = End (Some one) (Some two) 0 chan_kind.Stream
 
     abbrev right_end : OpenKind
-    right_end = End (Some two) (Some one) 0
+    right_end = End (Some two) (Some one) 0 chan_kind.Stream
 
     abbrev pair_opens : FinMap nat_cmp OpenKind
     pair_opens = insert (insert S.opens three left_end) four right_end

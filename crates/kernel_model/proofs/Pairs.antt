@@ -106,7 +106,7 @@ module _ (S : State) (v : IsNearlyValid S) (chans : FinMap nat_cmp Channel) (a b
   behind_more : (kind : OpenKind) → HasBehind S kind → HasBehind with_ends kind
   behind_more (File n offset flags) h = h
   behind_more (Directory n flags) h = h
-  behind_more (End reads writes flags) h = (h.0, reader_more reads h.1, writer_more writes h.2)
+  behind_more (End reads writes flags form) h = (h.0, reader_more reads h.1, writer_more writes h.2)
   behind_more (Terminal which flags) h = h
   behind_more (Process p object) h = h
 

@@ -224,19 +224,19 @@ module _ (constants : Constants) (S : State) (nearly : IsNearlyValid S) (p : ℕ
       → IsOne (IsReadable S kind) (λ event. TellsOfRead S event kind) (read_event userdata seen (Some kind))
   read_told userdata (File node offset flags) behind = (tt, nothing_told userdata type.FdRead)
   read_told userdata (Directory node flags) behind = (tt, nothing_told userdata type.FdRead)
-  read_told userdata (End (Some c) writes flags) behind =
+  read_told userdata (End (Some c) writes flags form) behind =
       let channel : Channel = behind.1.0 in
-      subst (λ x. IsOne (IsReadable S (End (Some c) writes flags)) (λ event. TellsOfRead S event (End (Some c) writes flags)) (reading_event userdata x))
+      subst (λ x. IsOne (IsReadable S (End (Some c) writes flags form)) (λ event. TellsOfRead S event (End (Some c) writes flags form)) (reading_event userdata x))
       (sym behind.1.1)
       (channel_told c channel behind.1.1 (λ x. (0 < length (bytes_of x.waiting)) ⊎ IsHungUp x)
       (λ event x. TellsBytes (length (bytes_of x.waiting)) (IsHungUp x) event) (reading_event userdata (Some channel))
       (reads_told userdata channel (nearly.channels c channel behind.1.1).sound))
-  read_told userdata (End None (Some c) flags) behind =
+  read_told userdata (End None (Some c) flags form) behind =
       let channel : Channel = behind.2.0 in
-      subst (λ x. IsOne ⊤ (λ event. TellsOfRead S event (End None (Some c) flags)) (Some (bytes_event userdata type.FdRead 0 (has_no_reader x))))
+      subst (λ x. IsOne ⊤ (λ event. TellsOfRead S event (End None (Some c) flags form)) (Some (bytes_event userdata type.FdRead 0 (has_no_reader x))))
       (sym behind.2.1)
       (tt, (channel, behind.2.1, record { count = refl; hangup = hangup_closed channel.reader; signal = refl; code = refl }))
-  read_told userdata (End None None flags) behind = absurd (not_true behind.0)
+  read_told userdata (End None None flags form) behind = absurd (not_true behind.0)
   read_told userdata (Terminal which flags) behind = (tt, nothing_told userdata type.FdRead)
   read_told userdata (Process q object) behind = (tt, nothing_told userdata type.FdRead)
 
@@ -269,19 +269,19 @@ module _ (constants : Constants) (S : State) (nearly : IsNearlyValid S) (p : ℕ
       → IsOne (IsWritable S kind) (λ event. TellsOfWrite S event kind) (write_event userdata seen (Some kind))
   write_told userdata (File node offset flags) behind = (tt, nothing_told userdata type.FdWrite)
   write_told userdata (Directory node flags) behind = (tt, nothing_told userdata type.FdWrite)
-  write_told userdata (End reads (Some c) flags) behind =
+  write_told userdata (End reads (Some c) flags form) behind =
       let channel : Channel = behind.2.0 in
-      subst (λ x. IsOne (IsWritable S (End reads (Some c) flags)) (λ event. TellsOfWrite S event (End reads (Some c) flags)) (writing_event userdata x))
+      subst (λ x. IsOne (IsWritable S (End reads (Some c) flags form)) (λ event. TellsOfWrite S event (End reads (Some c) flags form)) (writing_event userdata x))
       (sym behind.2.1)
       (channel_told c channel behind.2.1 (λ x. (length (bytes_of x.waiting) < 65536) ⊎ (x.reader ≢ Open))
       (λ event x. TellsBytes (65536 - length (bytes_of x.waiting)) (x.reader ≢ Open) event) (writing_event userdata (Some channel))
       (writes_told userdata channel))
-  write_told userdata (End (Some c) None flags) behind =
+  write_told userdata (End (Some c) None flags form) behind =
       let channel : Channel = behind.1.0 in
-      subst (λ x. IsOne ⊤ (λ event. TellsOfWrite S event (End (Some c) None flags)) (Some (bytes_event userdata type.FdWrite 0 (has_no_writer x))))
+      subst (λ x. IsOne ⊤ (λ event. TellsOfWrite S event (End (Some c) None flags form)) (Some (bytes_event userdata type.FdWrite 0 (has_no_writer x))))
       (sym behind.1.1)
       (tt, (channel, behind.1.1, record { count = refl; hangup = hangup_closed channel.writer; signal = refl; code = refl }))
-  write_told userdata (End None None flags) behind = absurd (not_true behind.0)
+  write_told userdata (End None None flags form) behind = absurd (not_true behind.0)
   write_told userdata (Terminal which flags) behind = (tt, nothing_told userdata type.FdWrite)
   write_told userdata (Process q object) behind = (tt, nothing_told userdata type.FdWrite)
 
@@ -304,7 +304,7 @@ module _ (constants : Constants) (S : State) (nearly : IsNearlyValid S) (p : ℕ
       → IsOne (IsOfEnded S kind) (λ event. TellsOfEnd S event kind) (terminate_event userdata seen (Some kind))
   end_told userdata (File node offset flags) behind has = absurd (zero_or_one (bit_at (rights_of open_type.File) 30) refl has)
   end_told userdata (Directory node flags) behind has = absurd (zero_or_one (bit_at (rights_of open_type.Directory) 30) refl has)
-  end_told userdata (End reads writes flags) behind has = absurd (no_end reads writes 30 refl refl refl has)
+  end_told userdata (End reads writes flags form) behind has = absurd (no_end reads writes 30 refl refl refl has)
   end_told userdata (Terminal which flags) behind has = absurd (no_stream which 30 refl refl has)
   end_told userdata (Process q object) behind has =
       let found = some_there (get S.statuses q) behind.0 in
@@ -331,9 +331,9 @@ module _ (constants : Constants) (S : State) (nearly : IsNearlyValid S) (p : ℕ
   read_names : (userdata : ℕ) (kind : OpenKind) → Names userdata type.FdRead (read_event userdata seen (Some kind))
   read_names userdata (File node offset flags) = (refl, refl, refl)
   read_names userdata (Directory node flags) = (refl, refl, refl)
-  read_names userdata (End (Some c) writes flags) = reading_names userdata (get S.chans c)
-  read_names userdata (End None (Some c) flags) = (refl, refl, refl)
-  read_names userdata (End None None flags) = (refl, refl, refl)
+  read_names userdata (End (Some c) writes flags form) = reading_names userdata (get S.chans c)
+  read_names userdata (End None (Some c) flags form) = (refl, refl, refl)
+  read_names userdata (End None None flags form) = (refl, refl, refl)
   read_names userdata (Terminal which flags) = (refl, refl, refl)
   read_names userdata (Process q object) = (refl, refl, refl)
 
@@ -345,9 +345,9 @@ module _ (constants : Constants) (S : State) (nearly : IsNearlyValid S) (p : ℕ
   write_names : (userdata : ℕ) (kind : OpenKind) → Names userdata type.FdWrite (write_event userdata seen (Some kind))
   write_names userdata (File node offset flags) = (refl, refl, refl)
   write_names userdata (Directory node flags) = (refl, refl, refl)
-  write_names userdata (End reads (Some c) flags) = writing_names userdata (get S.chans c)
-  write_names userdata (End (Some c) None flags) = (refl, refl, refl)
-  write_names userdata (End None None flags) = (refl, refl, refl)
+  write_names userdata (End reads (Some c) flags form) = writing_names userdata (get S.chans c)
+  write_names userdata (End (Some c) None flags form) = (refl, refl, refl)
+  write_names userdata (End None None flags form) = (refl, refl, refl)
   write_names userdata (Terminal which flags) = (refl, refl, refl)
   write_names userdata (Process q object) = (refl, refl, refl)
 
@@ -361,7 +361,7 @@ module _ (constants : Constants) (S : State) (nearly : IsNearlyValid S) (p : ℕ
   end_names userdata (Process q object) = ended_names userdata (get S.statuses q)
   end_names userdata (File node offset flags) = (refl, refl, refl)
   end_names userdata (Directory node flags) = (refl, refl, refl)
-  end_names userdata (End reads writes flags) = (refl, refl, refl)
+  end_names userdata (End reads writes flags form) = (refl, refl, refl)
   end_names userdata (Terminal which flags) = (refl, refl, refl)
 
   -- the event is the subscription's

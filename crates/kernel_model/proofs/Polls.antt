@@ -91,10 +91,10 @@ module _ (S : State) (parts : List Part) where
   read_seen userdata None all = refl
   read_seen userdata (Some (File node offset flags)) all = refl
   read_seen userdata (Some (Directory node flags)) all = refl
-  read_seen userdata (Some (End (Some c) writes flags)) all = ap (reading_event userdata) (channel_seen c (channel_part writes) all)
-  read_seen userdata (Some (End None (Some c) flags)) all =
+  read_seen userdata (Some (End (Some c) writes flags form)) all = ap (reading_event userdata) (channel_seen c (channel_part writes) all)
+  read_seen userdata (Some (End None (Some c) flags form)) all =
       ap (λ x. Some (bytes_event userdata type.FdRead 0 (has_no_reader x))) (channel_seen c [] all)
-  read_seen userdata (Some (End None None flags)) all = refl
+  read_seen userdata (Some (End None None flags form)) all = refl
   read_seen userdata (Some (Terminal which flags)) all = refl
   read_seen userdata (Some (Process p object)) all = refl
 
@@ -103,10 +103,10 @@ module _ (S : State) (parts : List Part) where
   write_seen userdata None all = refl
   write_seen userdata (Some (File node offset flags)) all = refl
   write_seen userdata (Some (Directory node flags)) all = refl
-  write_seen userdata (Some (End reads (Some c) flags)) all = ap (writing_event userdata) (channel_seen c [] (of_second_channel reads c all))
-  write_seen userdata (Some (End (Some c) None flags)) all =
+  write_seen userdata (Some (End reads (Some c) flags form)) all = ap (writing_event userdata) (channel_seen c [] (of_second_channel reads c all))
+  write_seen userdata (Some (End (Some c) None flags form)) all =
       ap (λ x. Some (bytes_event userdata type.FdWrite 0 (has_no_writer x))) (channel_seen c [] all)
-  write_seen userdata (Some (End None None flags)) all = refl
+  write_seen userdata (Some (End None None flags form)) all = refl
   write_seen userdata (Some (Terminal which flags)) all = refl
   write_seen userdata (Some (Process p object)) all = refl
 
@@ -116,7 +116,7 @@ module _ (S : State) (parts : List Part) where
   terminate_seen userdata None all = refl
   terminate_seen userdata (Some (File node offset flags)) all = refl
   terminate_seen userdata (Some (Directory node flags)) all = refl
-  terminate_seen userdata (Some (End reads writes flags)) all = refl
+  terminate_seen userdata (Some (End reads writes flags form)) all = refl
   terminate_seen userdata (Some (Terminal which flags)) all = refl
 
   -- what hangs on the open of a descriptor, and on what stands behind it

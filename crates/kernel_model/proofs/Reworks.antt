@@ -152,7 +152,7 @@ module _ (S : State) (n : ℕ) (node : Node) (u : Tree) (works : Reworks (tree_o
   behind_stays : (kind : OpenKind) → HasBehind S kind → HasBehind (put_one (set_node n node) S) kind
   behind_stays (File q offset flags) h = ap (λ t. is_file t q) put_tree ∙ file_stays q ∙ h
   behind_stays (Directory q flags) h = ap (λ t. is_directory t q) put_tree ∙ directory_stays q ∙ h
-  behind_stays (End reads writes flags) h = h
+  behind_stays (End reads writes flags form) h = h
   behind_stays (Terminal which flags) h = h
   behind_stays (Process p object) h = h
 

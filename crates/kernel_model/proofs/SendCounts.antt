@@ -7,6 +7,7 @@ use Rattle.std.specs.FinMap.{get, insert}
 use Rattle.std.specs.List.{AllByRecursion}
 use Rattle.abi_base.specs.declared.errno.Errno.{Errno}
 use Rattle.abi_base.specs.declared.errno.Errno.TheVariants.{Badf, Nomem, Success}
+use Rattle.abi_types.specs.declared.chan_kind.ChanKind.{ChanKind}
 use Rattle.abi_types.specs.Families.{is_anonymous}
 use Rattle.abi_types.specs.declared.place.Place.{Place}
 use Rattle.abi_types.specs.declared.reply.Reply.{Reply}
@@ -140,11 +141,12 @@ record GoesInto (S : State) (table : Table) (fd : ℕ) (bytes : List ℕ) (c : �
   socket : get table fd ≡ Some d
   reads : Option ℕ
   mode : ℕ
-  opened : get S.opens d.id ≡ Some (End reads (Some c) mode)
+  form : ChanKind
+  opened : get S.opens d.id ≡ Some (End reads (Some c) mode form)
 
 -- the channel that an open writes
 abbrev writes_of : Option OpenKind → Option ℕ
-writes_of (Some (End reads writes mode)) = writes
+writes_of (Some (End reads writes mode form)) = writes
 writes_of kind = None
 
 where_any : (P : Reply → Type 0) → ((reply : Reply) → P reply) → (a : Answer) → WhereReply P a
@@ -185,9 +187,9 @@ module _ (S : State) (table : Table) (fd : ℕ) (bytes : List ℕ) (c : ℕ) (wa
     silent o none same after =
         inr (where_any SendsNone (λ reply success. apart d here (λ is. none_is_no c (sym none ∙ is))) o.answer, as_before (sym same ∙ after))
 
-    sent : (reply : ℕ → Reply) (e mode : ℕ) (reads : Option ℕ) (carried : List Descriptor) (channel : Channel)
-        → get S.opens d.id ≡ Some (End reads (Some e) mode) → get S.chans e ≡ Some channel → 0 < length bytes → Decides (sends_to reply e bytes carried channel)
-    sent reply e mode reads carried channel opened there some after =
+    sent : (reply : ℕ → Reply) (e mode : ℕ) (form : ChanKind) (reads : Option ℕ) (carried : List Descriptor) (channel : Channel)
+        → get S.opens d.id ≡ Some (End reads (Some e) mode form) → get S.chans e ≡ Some channel → 0 < length bytes → Decides (sends_to reply e bytes carried channel)
+    sent reply e mode form reads carried channel opened there some after =
         let send : Send = record { bytes = take (room channel) bytes; carried = carried } in
         let new : Channel = pushed (take (room channel) bytes) carried channel in
         elim (eqb_tells c e) [
@@ -204,7 +206,8 @@ module _ (S : State) (table : Table) (fd : ℕ) (bytes : List ℕ) (c : ℕ) (wa
                   socket = here;
                   reads = reads;
                   mode = mode;
-                  opened = opened ∙ ap (λ k. Some (End reads (Some k) mode)) (sym is.1);
+                  form = form;
+                  opened = opened ∙ ap (λ k. Some (End reads (Some k) mode form)) (sym is.1);
                 },
                 sym (ap sends_had own) ∙ one ∙ ap (λ (x : Channel). suc (sends_had x)) old,
               ))
@@ -224,7 +227,7 @@ module _ (S : State) (table : Table) (fd : ℕ) (bytes : List ℕ) (c : ℕ) (wa
   socket_decides fds (Some d) here =
       send_holds (tick S) bytes (picked table fds) (Decides S table fd bytes c was now before) (refuses S table fd bytes c was now before)
       (λ after. inr (tt, as_before S table fd bytes c was now before after)) (none_sent S table fd bytes c was now before sent_reply) (get S.opens d.id)
-      (λ r e mode channel opened there some. sent S table fd bytes c was now before d here sent_reply e mode (Some r) (picked table fds) channel opened there some)
+      (λ r e mode form channel opened there some. sent S table fd bytes c was now before d here sent_reply e mode form (Some r) (picked table fds) channel opened there some)
 
   -- ---- fd_write
 
@@ -235,10 +238,10 @@ module _ (S : State) (table : Table) (fd : ℕ) (bytes : List ℕ) (c : ℕ) (wa
       put_keeps (write_open moment (whole (tick S)) bytes d.id (Some (File node offset flags))).updates (tick S) (at_chan c)
       ((write_opens_well bytes).sets moment (whole (tick S)) d.id (Some (File node offset flags)) (at_chan c) refl)
   other_chans moment d (Some (Directory node flags)) none = refl
-  other_chans moment d (Some (End reads None mode)) none =
-      put_keeps (write_open moment (whole (tick S)) bytes d.id (Some (End reads None mode))).updates (tick S) (at_chan c)
-      ((write_opens_well bytes).sets moment (whole (tick S)) d.id (Some (End reads None mode)) (at_chan c) refl)
-  other_chans moment d (Some (End reads (Some e) mode)) none = absurd (none_is_no e (sym none))
+  other_chans moment d (Some (End reads None mode form)) none =
+      put_keeps (write_open moment (whole (tick S)) bytes d.id (Some (End reads None mode form))).updates (tick S) (at_chan c)
+      ((write_opens_well bytes).sets moment (whole (tick S)) d.id (Some (End reads None mode form)) (at_chan c) refl)
+  other_chans moment d (Some (End reads (Some e) mode form)) none = absurd (none_is_no e (sym none))
   other_chans moment d (Some (Terminal which flags)) none =
       put_keeps (write_open moment (whole (tick S)) bytes d.id (Some (Terminal which flags))).updates (tick S) (at_chan c)
       ((write_opens_well bytes).sets moment (whole (tick S)) d.id (Some (Terminal which flags)) (at_chan c) refl)
@@ -255,11 +258,11 @@ module _ (S : State) (table : Table) (fd : ℕ) (bytes : List ℕ) (c : ℕ) (wa
   kind_decides moment d here None is = write_silent moment d here None is refl
   kind_decides moment d here (Some (File node offset flags)) is = write_silent moment d here (Some (File node offset flags)) is refl
   kind_decides moment d here (Some (Directory node flags)) is = write_silent moment d here (Some (Directory node flags)) is refl
-  kind_decides moment d here (Some (End reads None mode)) is = write_silent moment d here (Some (End reads None mode)) is refl
-  kind_decides moment d here (Some (End reads (Some e) mode)) is =
+  kind_decides moment d here (Some (End reads None mode form)) is = write_silent moment d here (Some (End reads None mode form)) is refl
+  kind_decides moment d here (Some (End reads (Some e) mode form)) is =
       on_holds (tick S) written_reply (Decides S table fd bytes c was now before) (refuses S table fd bytes c was now before)
       (λ after. inr (tt, as_before S table fd bytes c was now before after)) e mode bytes [] (none_sent S table fd bytes c was now before written_reply)
-      (λ channel there some. sent S table fd bytes c was now before d here written_reply e mode reads [] channel is there some)
+      (λ channel there some. sent S table fd bytes c was now before d here written_reply e mode form reads [] channel is there some)
   kind_decides moment d here (Some (Terminal which flags)) is = write_silent moment d here (Some (Terminal which flags)) is refl
   kind_decides moment d here (Some (Process p object)) is = write_silent moment d here (Some (Process p object)) is refl
 
@@ -283,7 +286,7 @@ map_bare : (place : Place) (size offset : ℕ) (t : Tree) (kind : Option OpenKin
 map_bare place size offset t None = refl
 map_bare place size offset t (Some (File node at flags)) = refl
 map_bare place size offset t (Some (Directory node flags)) = refl
-map_bare place size offset t (Some (End reads writes flags)) = refl
+map_bare place size offset t (Some (End reads writes flags form)) = refl
 map_bare place size offset t (Some (Terminal which flags)) = refl
 map_bare place size offset t (Some (Process p object)) = refl
 
@@ -427,6 +430,7 @@ puts_of S who call reply c success goes = record {
   socket = goes.into.socket;
   reads = goes.into.reads;
   mode = goes.into.mode;
+  form = goes.into.form;
   opened = goes.into.opened;
 }
 
@@ -436,7 +440,7 @@ goes_of S who call given c puts = record {
   own = puts.own;
   put = (puts.fd, puts.bytes);
   is = put_is call puts.fd puts.bytes puts.is;
-  into = record { some = puts.some; d = puts.d; socket = puts.socket; reads = puts.reads; mode = puts.mode; opened = puts.opened };
+  into = record { some = puts.some; d = puts.d; socket = puts.socket; reads = puts.reads; mode = puts.mode; form = puts.form; opened = puts.opened };
 }
 
 -- a reply is a success where it puts something into a channel

@@ -7,6 +7,7 @@ use Rattle.std.specs.FinMap.{get, insert}
 use Rattle.std.specs.List.{AllByRecursion}
 use Rattle.abi_base.specs.declared.errno.Errno.{Errno}
 use Rattle.abi_base.specs.declared.errno.Errno.TheVariants.{Again, Badf, Notsock, Pipe, Success}
+use Rattle.abi_types.specs.declared.chan_kind.ChanKind.{ChanKind}
 use Rattle.abi_types.specs.Families.{is_anonymous}
 use Rattle.abi_types.specs.declared.reply.Reply.{Reply}
 use Rattle.abi_types.specs.declared.reply.Answer.{Answer}
@@ -147,7 +148,7 @@ module _ (S : State) (reply : ℕ → Reply) (P : Outcome → Type 0) (refuses :
 -- the bytes are sent to the channel that the open writes
 abbrev pub Sent : State → List ℕ → List Descriptor → (Outcome → Type 0) → Option OpenKind → Type 0
 Sent S bytes carried P kind =
-    (r c flags : ℕ) (channel : Channel) → kind ≡ Some (End (Some r) (Some c) flags) → get S.chans c ≡ Some channel → 0 < length bytes
+    (r c flags : ℕ) (form : ChanKind) (channel : Channel) → kind ≡ Some (End (Some r) (Some c) flags form) → get S.chans c ≡ Some channel → 0 < length bytes
     → P (sends_to sent_reply c bytes carried channel)
 
 pub send_holds : (S : State) (bytes : List ℕ) (carried : List Descriptor) (P : Outcome → Type 0)
@@ -156,10 +157,10 @@ pub send_holds : (S : State) (bytes : List ℕ) (carried : List Descriptor) (P :
 send_holds S bytes carried P refuses waits nothing None sent = refuses Badf (λ e. cc)
 send_holds S bytes carried P refuses waits nothing (Some (File node offset flags)) sent = refuses Notsock (λ e. cc)
 send_holds S bytes carried P refuses waits nothing (Some (Directory node flags)) sent = refuses Notsock (λ e. cc)
-send_holds S bytes carried P refuses waits nothing (Some (End None writes flags)) sent = refuses Notsock (λ e. cc)
-send_holds S bytes carried P refuses waits nothing (Some (End (Some r) None flags)) sent = refuses Notsock (λ e. cc)
-send_holds S bytes carried P refuses waits nothing (Some (End (Some r) (Some c) flags)) sent =
-    on_holds S sent_reply P refuses waits c flags bytes carried nothing (λ channel there some. sent r c flags channel refl there some)
+send_holds S bytes carried P refuses waits nothing (Some (End None writes flags form)) sent = refuses Notsock (λ e. cc)
+send_holds S bytes carried P refuses waits nothing (Some (End (Some r) None flags form)) sent = refuses Notsock (λ e. cc)
+send_holds S bytes carried P refuses waits nothing (Some (End (Some r) (Some c) flags form)) sent =
+    on_holds S sent_reply P refuses waits c flags bytes carried nothing (λ channel there some. sent r c flags form channel refl there some)
 send_holds S bytes carried P refuses waits nothing (Some (Terminal which flags)) sent = refuses Notsock (λ e. cc)
 send_holds S bytes carried P refuses waits nothing (Some (Process p object)) sent = refuses Notsock (λ e. cc)
 
@@ -177,7 +178,8 @@ record Lists (S : State) (who : Who) (call : Call) (c : ℕ) (carried : List Des
   socket : get table fd ≡ Some d
   reads : Option ℕ
   mode : ℕ
-  opened : get S.opens d.id ≡ Some (End reads (Some c) mode)
+  form : ChanKind
+  opened : get S.opens d.id ≡ Some (End reads (Some c) mode form)
   listed : carried ≡ picked table fds
 
 abbrev Adds : State → Who → Call → ℕ → List Descriptor → Type 0
@@ -196,7 +198,7 @@ module _ (S : State) (who : Who) (fd : ℕ) (bytes fds : List ℕ) (flags : ℕ)
       send_holds (tick S) bytes (picked table fds) Goes (λ errno other. stay (Adds S who sending) S) (stay (Adds S who sending) S)
       (λ none. stay (Adds S who sending) S)
       (get S.opens d.id)
-      (λ r c mode channel opened there some.
+      (λ r c mode form channel opened there some.
       set_goes (Adds S who sending) S (tick S) c (pushed (take (room channel) bytes) (picked table fds) channel) (stay (Adds S who sending) S)
       (adds channel (record { bytes = take (room channel) bytes; carried = picked table fds }) there refl refl
       (inr (record {
@@ -212,6 +214,7 @@ module _ (S : State) (who : Who) (fd : ℕ) (bytes fds : List ℕ) (flags : ℕ)
         socket = here;
         reads = Some r;
         mode = mode;
+        form = form;
         opened = opened;
         listed = refl;
       }))))
@@ -298,6 +301,7 @@ with_reply S who call reply c carried success (inr sent) = inr (record {
   socket = sent.socket;
   reads = sent.reads;
   mode = sent.mode;
+  form = sent.form;
   opened = sent.opened;
   listed = sent.listed;
 })

@@ -12,6 +12,7 @@ use Rattle.std.specs.Ordering.{nat_cmp}
 use Rattle.abi_base.specs.declared.errno.Errno.{Errno}
 use Rattle.abi_base.specs.declared.errno.Errno.TheVariants.{Again, Badf, Mfile, Notsock, Pipe}
 use Rattle.abi_base.specs.declared.rights.TheConstants.Rights.{FD_READ, FD_WRITE, SOCK_SHUTDOWN}
+use Rattle.abi_types.specs.declared.chan_kind.ChanKind.{ChanKind}
 use Rattle.abi_types.specs.declared.descriptor.Descriptor.{Descriptor}
 use Rattle.abi_types.specs.declared.open_kind.OpenKind.{OpenKind}
 use Rattle.abi_types.specs.declared.open_kind.OpenKind.TheVariants.{File, Directory, End, Terminal, Process}
@@ -77,10 +78,10 @@ module _ (bytes : List ℕ) (carried : List Descriptor) where
   send_open_ends v o None = ends_refused _ _ _ _ _ _ _ Badf send_badf
   send_open_ends v o (Some (File node offset flags)) = ends_refused _ _ _ _ _ _ _ Notsock send_notsock
   send_open_ends v o (Some (Directory node flags)) = ends_refused _ _ _ _ _ _ _ Notsock send_notsock
-  send_open_ends v o (Some (End None writes flags)) = ends_refused _ _ _ _ _ _ _ Notsock send_notsock
-  send_open_ends v o (Some (End (Some r) None flags)) = ends_refused _ _ _ _ _ _ _ Notsock send_notsock
-  send_open_ends v o (Some (End (Some r) (Some w) flags)) =
-      send_ends sent_reply (λ count. (refl, refl)) send_errors send_badf send_again send_pipe v o bytes carried (Some r) (Some w) flags
+  send_open_ends v o (Some (End None writes flags form)) = ends_refused _ _ _ _ _ _ _ Notsock send_notsock
+  send_open_ends v o (Some (End (Some r) None flags form)) = ends_refused _ _ _ _ _ _ _ Notsock send_notsock
+  send_open_ends v o (Some (End (Some r) (Some w) flags form)) =
+      send_ends sent_reply (λ count. (refl, refl)) send_errors send_badf send_again send_pipe v o bytes carried (Some r) (Some w) flags form
   send_open_ends v o (Some (Terminal which flags)) = ends_refused _ _ _ _ _ _ _ Notsock send_notsock
   send_open_ends v o (Some (Process p object)) = ends_refused _ _ _ _ _ _ _ Notsock send_notsock
 
@@ -89,9 +90,9 @@ module _ (bytes : List ℕ) (carried : List Descriptor) where
   send_open_reads S p o None = refl
   send_open_reads S p o (Some (File node offset flags)) = refl
   send_open_reads S p o (Some (Directory node flags)) = refl
-  send_open_reads S p o (Some (End None writes flags)) = refl
-  send_open_reads S p o (Some (End (Some r) None flags)) = refl
-  send_open_reads S p o (Some (End (Some r) (Some w) flags)) = send_reads sent_reply S p o bytes carried (Some r) (Some w) flags
+  send_open_reads S p o (Some (End None writes flags form)) = refl
+  send_open_reads S p o (Some (End (Some r) None flags form)) = refl
+  send_open_reads S p o (Some (End (Some r) (Some w) flags form)) = send_reads sent_reply S p o bytes carried (Some r) (Some w) flags form
   send_open_reads S p o (Some (Terminal which flags)) = refl
   send_open_reads S p o (Some (Process q object)) = refl
 
@@ -100,9 +101,9 @@ module _ (bytes : List ℕ) (carried : List Descriptor) where
   send_open_parks v clock None h = h
   send_open_parks v clock (Some (File node offset flags)) h = h
   send_open_parks v clock (Some (Directory node flags)) h = h
-  send_open_parks v clock (Some (End None writes flags)) h = h
-  send_open_parks v clock (Some (End (Some r) None flags)) h = h
-  send_open_parks v clock (Some (End (Some r) (Some w) flags)) h = send_parks sent_reply v clock flags bytes carried (Some w) h
+  send_open_parks v clock (Some (End None writes flags form)) h = h
+  send_open_parks v clock (Some (End (Some r) None flags form)) h = h
+  send_open_parks v clock (Some (End (Some r) (Some w) flags form)) h = send_parks sent_reply v clock flags bytes carried (Some w) h
   send_open_parks v clock (Some (Terminal which flags)) h = h
   send_open_parks v clock (Some (Process p object)) h = h
 
@@ -110,7 +111,7 @@ module _ (bytes : List ℕ) (carried : List Descriptor) where
   sent_seen S None q h = absurd (not_true h)
   sent_seen S (Some (File node offset flags)) q h = absurd (not_true h)
   sent_seen S (Some (Directory node flags)) q h = absurd (not_true h)
-  sent_seen S (Some (End reads writes flags)) q h = has_right (channel_part reads) (channel_part writes) q h
+  sent_seen S (Some (End reads writes flags form)) q h = has_right (channel_part reads) (channel_part writes) q h
   sent_seen S (Some (Terminal which flags)) q h = absurd (not_true h)
   sent_seen S (Some (Process p object)) q h = absurd (not_true h)
 
@@ -283,7 +284,7 @@ module _ (p : ℕ) (table : Table) (v : View) (n room flags : ℕ) (P : Outcome 
   -- the channel is there, and the descriptors that come have been installed
   abbrev pub Takes : Option OpenKind → Type 0
   Takes kind =
-      (c w mode : ℕ) (channel : Channel) (installed : Installed) → kind ≡ Some (End (Some c) (Some w) mode) → v.channel c ≡ Some channel
+      (c w mode : ℕ) (form : ChanKind) (channel : Channel) (installed : Installed) → kind ≡ Some (End (Some c) (Some w) mode form) → v.channel c ≡ Some channel
       → install table (take room (pull n channel).carried) ≡ Some installed → P (takes p c room (pull n channel) installed)
 
   waits_holds : (nonblocking : Bool) → P (waits_unless nonblocking)
@@ -320,10 +321,10 @@ module _ (p : ℕ) (table : Table) (v : View) (n room flags : ℕ) (P : Outcome 
   receive_holds None taken = refuses Badf receive_badf
   receive_holds (Some (File node offset mode)) taken = refuses Notsock receive_notsock
   receive_holds (Some (Directory node mode)) taken = refuses Notsock receive_notsock
-  receive_holds (Some (End None writes mode)) taken = refuses Notsock receive_notsock
-  receive_holds (Some (End (Some r) None mode)) taken = refuses Notsock receive_notsock
-  receive_holds (Some (End (Some r) (Some w) mode)) taken =
-      from_holds (is_nonblocking mode) r (v.channel r) (λ channel installed there is. taken r w mode channel installed refl there is)
+  receive_holds (Some (End None writes mode form)) taken = refuses Notsock receive_notsock
+  receive_holds (Some (End (Some r) None mode form)) taken = refuses Notsock receive_notsock
+  receive_holds (Some (End (Some r) (Some w) mode form)) taken =
+      from_holds (is_nonblocking mode) r (v.channel r) (λ channel installed there is. taken r w mode form channel installed refl there is)
   receive_holds (Some (Terminal which mode)) taken = refuses Notsock receive_notsock
   receive_holds (Some (Process q object)) taken = refuses Notsock receive_notsock
 
@@ -333,10 +334,10 @@ module _ (p : ℕ) (table : Table) (n room flags : ℕ) where
   receive_reads S q o None = refl
   receive_reads S q o (Some (File node offset mode)) = refl
   receive_reads S q o (Some (Directory node mode)) = refl
-  receive_reads S q o (Some (End None writes mode)) = refl
-  receive_reads S q o (Some (End (Some r) None mode)) = refl
-  receive_reads S q o (Some (End (Some r) (Some w) mode)) =
-      ap (receive_from p table n room flags (is_nonblocking mode) r) (reader_seen S q o r (Some w) mode)
+  receive_reads S q o (Some (End None writes mode form)) = refl
+  receive_reads S q o (Some (End (Some r) None mode form)) = refl
+  receive_reads S q o (Some (End (Some r) (Some w) mode form)) =
+      ap (receive_from p table n room flags (is_nonblocking mode) r) (reader_seen S q o r (Some w) mode form)
   receive_reads S q o (Some (Terminal which mode)) = refl
   receive_reads S q o (Some (Process x object)) = refl
 
@@ -345,9 +346,9 @@ module _ (p : ℕ) (table : Table) (n room flags : ℕ) where
   receive_parks v clock None h = h
   receive_parks v clock (Some (File node offset mode)) h = h
   receive_parks v clock (Some (Directory node mode)) h = h
-  receive_parks v clock (Some (End None writes mode)) h = h
-  receive_parks v clock (Some (End (Some r) None mode)) h = h
-  receive_parks v clock (Some (End (Some r) (Some w) mode)) h = h
+  receive_parks v clock (Some (End None writes mode form)) h = h
+  receive_parks v clock (Some (End (Some r) None mode form)) h = h
+  receive_parks v clock (Some (End (Some r) (Some w) mode form)) h = h
   receive_parks v clock (Some (Terminal which mode)) h = h
   receive_parks v clock (Some (Process x object)) h = h
 
@@ -355,7 +356,7 @@ module _ (p : ℕ) (table : Table) (n room flags : ℕ) where
   received_seen S None q h = absurd (not_true h)
   received_seen S (Some (File node offset mode)) q h = absurd (not_true h)
   received_seen S (Some (Directory node mode)) q h = absurd (not_true h)
-  received_seen S (Some (End reads writes mode)) q h = has_left (channel_part reads) (channel_part writes) q h
+  received_seen S (Some (End reads writes mode form)) q h = has_left (channel_part reads) (channel_part writes) q h
   received_seen S (Some (Terminal which mode)) q h = absurd (not_true h)
   received_seen S (Some (Process x object)) q h = absurd (not_true h)
 
@@ -365,7 +366,7 @@ module _ (p : ℕ) (table : Table) (n room flags : ℕ) where
     seen = received_seen;
     plain = λ now q own v o kind.
         receive_holds p table v n room flags (λ x. OrWaits true q own x (IsPlain receive_errors x)) (λ errno here. inr (refl, inr (refl, here)))
-        (inl (refl, nothing_set refl refl)) (λ bytes. inr (refl, inl refl)) kind (λ c w mode channel installed is there made. inr (refl, inl refl));
+        (inl (refl, nothing_set refl refl)) (λ bytes. inr (refl, inl refl)) kind (λ c w mode form channel installed is there made. inr (refl, inl refl));
     badf = receive_badf;
     lacks = λ _. ((λ e. cc), ((λ e. cc), ((λ e. cc), ((λ e. cc), tt))));
     waits = λ _. record { patient = λ now before v clock o kind h. receive_parks v clock kind h; keeps = refl };
@@ -386,7 +387,7 @@ module _ (p : ℕ) (table : Table) (n room flags : ℕ) where
       let own = outside_cons (at_proc p) (at_status p ∷ []) q (outside_cons at_clock (at_proc p ∷ at_status p ∷ []) q both.0).1 in
       let behind_it : has_part (received_part (get S.opens d.id)) q ≡ false = (outside_cons (at_open d.id) (received_part (get S.opens d.id)) q both.1).1 in
       receive_holds p table (whole (tick S)) n room flags (λ x. IsUnset x q) (λ errno here. refl) refl (λ bytes. refl) (get S.opens d.id)
-      (λ c w mode channel installed is there made.
+      (λ c w mode form channel installed is there made.
       let chan = outside_cons (at_chan c) [] q (ap (λ kind. has_part (received_part kind) q) (sym is) ∙ behind_it) in
       ap (λ b. b || (same_part (at_proc p) q || false)) chan.0 ∙ ap (λ b. b || false) own.0)
 
@@ -395,26 +396,26 @@ module _ (p : ℕ) (table : Table) (n room flags : ℕ) where
   receive_others v None q other = (refl, refl)
   receive_others v (Some d) q other =
       receive_holds p table v n room flags (λ x. IsUnset x (at_proc q) × IsUnset x (at_status q)) (λ errno here. (refl, refl)) (refl, refl)
-      (λ bytes. (refl, refl)) (v.opened d.id) (λ c w mode channel installed is there made. (ap (λ b. b || false) (number_apart p q other), refl))
+      (λ bytes. (refl, refl)) (v.opened d.id) (λ c w mode form channel installed is there made. (ap (λ b. b || false) (number_apart p q other), refl))
 
   receive_own : (S : State) (d : Option Descriptor) → get (put_all (receive_at p table n room flags (whole S) d).updates S).processes p ≡ get S.processes p
   receive_own S None = refl
   receive_own S (Some d) =
       receive_holds p table (whole S) n room flags (λ x. get (put_all x.updates S).processes p ≡ get S.processes p) (λ errno here. refl) refl (λ bytes. refl)
-      (get S.opens d.id) (λ c w mode channel installed is there made. refl)
+      (get S.opens d.id) (λ c w mode form channel installed is there made. refl)
 
   receive_carries : (S : State) (d : Option Descriptor) → AllCarryOn S (table, [], false) (receive_at p table n room flags (whole S) d)
   receive_carries S None = tt
   receive_carries S (Some d) =
       receive_holds p table (whole S) n room flags (AllCarryOn S (table, [], false)) (λ errno here. tt) tt (λ bytes. tt) (get S.opens d.id)
-      (λ c w mode channel installed is there made. (drawn_carries S (table, [], false) c channel there (min n (reach channel.waiting)), (tt, tt)))
+      (λ c w mode form channel installed is there made. (drawn_carries S (table, [], false) c channel there (min n (reach channel.waiting)), (tt, tt)))
 
   receive_valid : (fd : ℕ) (S : State) (d : Option Descriptor) → get table fd ≡ d → get S.tables p ≡ Some table → IsNearlyValid S
       → IsNearlyValid (put_all (receive_at p table n room flags (whole S) d).updates S)
   receive_valid fd S None at own v = v
   receive_valid fd S (Some d) at own v =
       receive_holds p table (whole S) n room flags (λ x. IsNearlyValid (put_all x.updates S)) (λ errno here. v) v (λ bytes. v) (get S.opens d.id)
-      (λ c w mode channel installed is there made.
+      (λ c w mode form channel installed is there made.
       let named : Descriptor → Type 0 = λ x. IsNamed (get S.opens x.id) x in
       let taken : IsNearlyValid (put_one (set_chan c (pull n channel).rest) S) =
       set_chan_nearly_valid S c channel (pull n channel).rest there (λ h. h) (λ h. h)
@@ -559,11 +560,11 @@ module _ (how : ℕ) where
   shut_reads S p o None = refl
   shut_reads S p o (Some (File node offset flags)) = refl
   shut_reads S p o (Some (Directory node flags)) = refl
-  shut_reads S p o (Some (End None writes flags)) = refl
-  shut_reads S p o (Some (End (Some r) None flags)) = refl
-  shut_reads S p o (Some (End (Some r) (Some w) flags)) =
-      ap (λ x. shut_then r w x ((restrict S (seen_parts S p o (Some (End (Some r) (Some w) flags)))).channel w)) (reader_seen S p o r (Some w) flags)
-      ∙ ap (shut_then r w (get S.chans r)) (writer_seen S p o (Some r) w flags)
+  shut_reads S p o (Some (End None writes flags form)) = refl
+  shut_reads S p o (Some (End (Some r) None flags form)) = refl
+  shut_reads S p o (Some (End (Some r) (Some w) flags form)) =
+      ap (λ x. shut_then r w x ((restrict S (seen_parts S p o (Some (End (Some r) (Some w) flags form)))).channel w)) (reader_seen S p o r (Some w) flags form)
+      ∙ ap (shut_then r w (get S.chans r)) (writer_seen S p o (Some r) w flags form)
   shut_reads S p o (Some (Terminal which flags)) = refl
   shut_reads S p o (Some (Process q object)) = refl
 
@@ -571,7 +572,7 @@ module _ (how : ℕ) where
   both_seen S None q h = absurd (not_true h)
   both_seen S (Some (File node offset flags)) q h = absurd (not_true h)
   both_seen S (Some (Directory node flags)) q h = absurd (not_true h)
-  both_seen S (Some (End reads writes flags)) q h = h
+  both_seen S (Some (End reads writes flags form)) q h = h
   both_seen S (Some (Terminal which flags)) q h = absurd (not_true h)
   both_seen S (Some (Process p object)) q h = absurd (not_true h)
 
@@ -591,9 +592,9 @@ module _ (how : ℕ) where
   shut_ends v o None = shuts_refused _ _ _ Badf shut_badf
   shut_ends v o (Some (File node offset flags)) = shuts_refused _ _ _ Notsock shut_notsock
   shut_ends v o (Some (Directory node flags)) = shuts_refused _ _ _ Notsock shut_notsock
-  shut_ends v o (Some (End None writes flags)) = shuts_refused _ _ _ Notsock shut_notsock
-  shut_ends v o (Some (End (Some r) None flags)) = shuts_refused _ _ _ Notsock shut_notsock
-  shut_ends v o (Some (End (Some r) (Some w) flags)) = record {
+  shut_ends v o (Some (End None writes flags form)) = shuts_refused _ _ _ Notsock shut_notsock
+  shut_ends v o (Some (End (Some r) None flags form)) = shuts_refused _ _ _ Notsock shut_notsock
+  shut_ends v o (Some (End (Some r) (Some w) flags form)) = record {
     apart = shut_apart (shuts 1) r (v.channel r) (shuts 2) w (v.channel w);
     sets = λ q h.
         let one = outside_cons (at_chan r) (at_chan w ∷ []) q h in

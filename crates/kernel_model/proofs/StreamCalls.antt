@@ -219,7 +219,7 @@ write_reads bytes now S p o (Some (File node offset flags)) =
     (write_on_alike (tree_of S) (restrict S (seen_parts S p o (Some (File node offset flags)))).branch node offset flags now bytes
     (behind_is_seen S p o (Some (File node offset flags))))
 write_reads bytes now S p o (Some (Directory node flags)) = refl
-write_reads bytes now S p o (Some (End reads writes flags)) = send_reads written_reply S p o bytes [] reads writes flags
+write_reads bytes now S p o (Some (End reads writes flags form)) = send_reads written_reply S p o bytes [] reads writes flags form
 write_reads bytes now S p o (Some (Process q object)) = refl
 
 write_term_fine : (bytes : List ℕ) (v : View) (o which flags : ℕ) (stream : Option Stream)
@@ -251,8 +251,8 @@ write_fine bytes now v o (Some (Terminal which flags)) = write_term_fine bytes v
 write_fine bytes now v o (Some (File node offset flags)) =
     write_from_fine v o node offset flags now (write_place v.branch node offset flags) bytes
 write_fine bytes now v o (Some (Directory node flags)) = fine_refused _ _ _ _ _ _ Badf ([], _, refl)
-write_fine bytes now v o (Some (End reads writes flags)) =
-    fine_end _ _ _ _ (send_ends written_reply well_written write_errors write_badf write_again write_pipe v o bytes [] reads writes flags) (λ S nearly. tt)
+write_fine bytes now v o (Some (End reads writes flags form)) =
+    fine_end _ _ _ _ (send_ends written_reply well_written write_errors write_badf write_again write_pipe v o bytes [] reads writes flags form) (λ S nearly. tt)
     (λ table. (inl refl, refl))
 write_fine bytes now v o (Some (Process p object)) = fine_refused _ _ _ _ _ _ Badf ([], _, refl)
 
@@ -261,7 +261,7 @@ written_is_seen S None q h = h
 written_is_seen S (Some (Terminal which flags)) q h = h
 written_is_seen S (Some (File node offset flags)) q h = h
 written_is_seen S (Some (Directory node flags)) q h = absurd (not_true h)
-written_is_seen S (Some (End reads writes flags)) q h = written_end_seen S reads writes flags q h
+written_is_seen S (Some (End reads writes flags form)) q h = written_end_seen S reads writes flags form q h
 written_is_seen S (Some (Process p object)) q h = absurd (not_true h)
 
 -- only a write to an end waits, whenever it comes
@@ -284,7 +284,7 @@ write_waits bytes = record { patient = λ now before v clock o kind. still now b
   still now before v clock o (Some (File node offset flags)) h =
       absurd (not_true (sym (written v.branch node flags now (write_place v.branch node offset flags) bytes) ∙ h))
   still now before v clock o (Some (Directory node flags)) h = absurd (not_true h)
-  still now before v clock o (Some (End reads writes flags)) h = send_parks written_reply v clock flags bytes [] writes h
+  still now before v clock o (Some (End reads writes flags form)) h = send_parks written_reply v clock flags bytes [] writes h
   still now before v clock o (Some (Process p object)) h = absurd (not_true h)
 
 pub write_opens_well : (bytes : List ℕ) → OpensWell (writing bytes)
@@ -320,7 +320,7 @@ read_reads n now S p o (Some (Terminal which flags)) = ap (read_term n which) (f
 read_reads n now S p o (Some (File node offset flags)) =
     ap (λ x. with_offset o (read_moves node offset flags n (bytes_in x))) (sym (behind_is_seen S p o (Some (File node offset flags))))
 read_reads n now S p o (Some (Directory node flags)) = refl
-read_reads n now S p o (Some (End reads writes flags)) = read_end_reads S p o n reads writes flags
+read_reads n now S p o (Some (End reads writes flags form)) = read_end_reads S p o n reads writes flags form
 read_reads n now S p o (Some (Process q object)) = refl
 
 read_term_fine : (n : ℕ) (v : View) (o which flags : ℕ) (stream : Option Stream)
@@ -333,8 +333,8 @@ read_fine n now v o None = fine_refused _ _ _ _ _ _ Badf ([], _, refl)
 read_fine n now v o (Some (Terminal which flags)) = read_term_fine n v o which flags (v.term which)
 read_fine n now v o (Some (File node offset flags)) = fine_moved _ _ _ _ o node offset _ flags _ refl refl
 read_fine n now v o (Some (Directory node flags)) = fine_refused _ _ _ _ _ _ Badf ([], _, refl)
-read_fine n now v o (Some (End reads writes flags)) =
-    fine_end _ _ _ _ (read_ends read_errors read_badf read_again v o n reads writes flags) (λ S nearly. tt) (λ table. tt)
+read_fine n now v o (Some (End reads writes flags form)) =
+    fine_end _ _ _ _ (read_ends read_errors read_badf read_again v o n reads writes flags form) (λ S nearly. tt) (λ table. tt)
 read_fine n now v o (Some (Process p object)) = fine_refused _ _ _ _ _ _ Badf ([], _, refl)
 
 stream_is_seen : (S : State) (kind : Option OpenKind) (q : Part) → has_part (stream_part kind) q ≡ true → has_part (behind S kind) q ≡ true
@@ -342,7 +342,7 @@ stream_is_seen S None q h = h
 stream_is_seen S (Some (Terminal which flags)) q h = h
 stream_is_seen S (Some (File node offset flags)) q h = absurd (not_true h)
 stream_is_seen S (Some (Directory node flags)) q h = absurd (not_true h)
-stream_is_seen S (Some (End reads writes flags)) q h = read_end_seen S reads writes flags q h
+stream_is_seen S (Some (End reads writes flags form)) q h = read_end_seen S reads writes flags form q h
 stream_is_seen S (Some (Process p object)) q h = absurd (not_true h)
 
 -- only a read from an end waits, whenever it comes
@@ -358,7 +358,7 @@ read_waits n = record { patient = λ now before v clock o kind. still v clock o 
   still v clock o (Some (Terminal which flags)) h = absurd (not_true (sym (from_term which (v.term which)) ∙ h))
   still v clock o (Some (File node offset flags)) h = absurd (not_true h)
   still v clock o (Some (Directory node flags)) h = absurd (not_true h)
-  still v clock o (Some (End reads writes flags)) h = read_parks v clock n flags reads h
+  still v clock o (Some (End reads writes flags form)) h = read_parks v clock n flags reads h
   still v clock o (Some (Process p object)) h = absurd (not_true h)
 
 pub read_opens_well : (n : ℕ) → OpensWell (reading n)
@@ -384,7 +384,7 @@ module _ (bits whence : ℕ) where
   seek_reads now S p o (Some (File node offset flags)) =
       ap (λ x. with_offset o (seek_to node flags (sought_by offset x))) (sym (behind_is_seen S p o (Some (File node offset flags))))
   seek_reads now S p o (Some (Directory node flags)) = refl
-  seek_reads now S p o (Some (End reads writes flags)) = refl
+  seek_reads now S p o (Some (End reads writes flags form)) = refl
   seek_reads now S p o (Some (Process q object)) = refl
 
   seek_to_fine : (v : View) (o node offset flags : ℕ) (place : Option ℕ)
@@ -397,7 +397,7 @@ module _ (bits whence : ℕ) where
   seek_fine now v o (Some (Terminal which flags)) = fine_refused _ _ _ _ _ _ Badf ([], _, refl)
   seek_fine now v o (Some (File node offset flags)) = seek_to_fine v o node offset flags (sought v.branch node offset bits whence)
   seek_fine now v o (Some (Directory node flags)) = fine_refused _ _ _ _ _ _ Badf ([], _, refl)
-  seek_fine now v o (Some (End reads writes flags)) = fine_refused _ _ _ _ _ _ Badf ([], _, refl)
+  seek_fine now v o (Some (End reads writes flags form)) = fine_refused _ _ _ _ _ _ Badf ([], _, refl)
   seek_fine now v o (Some (Process p object)) = fine_refused _ _ _ _ _ _ Badf ([], _, refl)
 
   pub seek_opens_well : OpensWell (seeking bits whence)

@@ -172,7 +172,7 @@ pub record IsTreeAfter (S : State) (u : Tree) : Type 0 where
 behind_after : (S : State) (u : Tree) → IsTreeAfter S u → (kind : OpenKind) → HasBehind S kind → HasBehind (with_tree u S) kind
 behind_after S u after (File q offset flags) h = after.files q h
 behind_after S u after (Directory q flags) h = after.directories q h
-behind_after S u after (End reads writes flags) h = h
+behind_after S u after (End reads writes flags form) h = h
 behind_after S u after (Terminal which flags) h = h
 behind_after S u after (Process p object) h = h
 

@@ -9,6 +9,7 @@ use Rattle.std.specs.Ordering.{nat_cmp}
 use Rattle.std.specs.FinMap.{FinMap, get, get-empty, insert, empty}
 use Rattle.std.specs.List.{list_any}
 use Rattle.std.specs.Option.{option_map}
+use Rattle.abi_types.specs.declared.chan_kind.ChanKind.{ChanKind}
 use Rattle.abi_types.specs.declared.counts.Counts.{Counts}
 use Rattle.abi_types.specs.declared.descriptor.Descriptor.{Descriptor}
 use Rattle.abi_types.specs.declared.open_kind.OpenKind.{OpenKind}
@@ -215,7 +216,7 @@ pub behind_same : (S T : State) → ((n : ℕ) → get T.nodes n ≡ get S.nodes
 behind_same S T nodes more chans made (Terminal which flags) h = (more which h.0, h.1)
 behind_same S T nodes more chans made (File node offset flags) h = ap is_file_node (nodes node) ∙ h
 behind_same S T nodes more chans made (Directory node flags) h = ap is_directory_node (nodes node) ∙ h
-behind_same S T nodes more chans made (End reads writes flags) h =
+behind_same S T nodes more chans made (End reads writes flags form) h =
     (h.0, reader_same S.chans T.chans chans reads h.1, writer_same S.chans T.chans chans writes h.2)
 behind_same S T nodes more chans made (Process p object) h = (made p h.0, h.1)
 
@@ -280,12 +281,12 @@ writer_keeps channel h =
     ∙ ap (λ b. cond (not b) (Some channel) None) (and_false (is_gone channel.reader))
 
 -- the channels of an end that is left still have its sides
-left_reader : (S : State) (o : ℕ) (reads writes : Option ℕ) (flags : ℕ) → AreSole S.opens → get (release S).opens o ≡ Some (End reads writes flags)
-    → get S.opens o ≡ Some (End reads writes flags) → HasReader S.chans reads → HasReader (release S).chans reads
-left_reader S o None writes flags sole there before h = h
-left_reader S o (Some c) writes flags sole there before h =
+left_reader : (S : State) (o : ℕ) (reads writes : Option ℕ) (flags : ℕ) (form : ChanKind) → AreSole S.opens → get (release S).opens o ≡ Some (End reads writes flags form)
+    → get S.opens o ≡ Some (End reads writes flags form) → HasReader S.chans reads → HasReader (release S).chans reads
+left_reader S o None writes flags form sole there before h = h
+left_reader S o (Some c) writes flags form sole there before h =
     let kept : loses_reader S (ends S) c ≡ false =
-    sole_left S (is_reader c) o (End (Some c) writes flags) (sole c).1 there (ap (is_reader c) before ∙ eq-eqb c c refl) in
+    sole_left S (is_reader c) o (End (Some c) writes flags form) (sole c).1 there (ap (is_reader c) before ∙ eq-eqb c c refl) in
     let lost : Bool = loses_writer S (ends S) c in (
       channel_left false lost h.0,
       channel_released S c ∙ ap (λ b. kept_channel (option_map (channel_left b lost) (get S.chans c))) kept
@@ -294,12 +295,12 @@ left_reader S o (Some c) writes flags sole there before h =
       λ gone. h.2 (sym (reader_kept lost h.0) ∙ gone),
     )
 
-left_writer : (S : State) (o : ℕ) (reads writes : Option ℕ) (flags : ℕ) → AreSole S.opens → get (release S).opens o ≡ Some (End reads writes flags)
-    → get S.opens o ≡ Some (End reads writes flags) → HasWriter S.chans writes → HasWriter (release S).chans writes
-left_writer S o reads None flags sole there before h = h
-left_writer S o reads (Some c) flags sole there before h =
+left_writer : (S : State) (o : ℕ) (reads writes : Option ℕ) (flags : ℕ) (form : ChanKind) → AreSole S.opens → get (release S).opens o ≡ Some (End reads writes flags form)
+    → get S.opens o ≡ Some (End reads writes flags form) → HasWriter S.chans writes → HasWriter (release S).chans writes
+left_writer S o reads None flags form sole there before h = h
+left_writer S o reads (Some c) flags form sole there before h =
     let kept : loses_writer S (ends S) c ≡ false =
-    sole_left S (is_writer c) o (End reads (Some c) flags) (sole c).2 there (ap (is_writer c) before ∙ eq-eqb c c refl) in
+    sole_left S (is_writer c) o (End reads (Some c) flags form) (sole c).2 there (ap (is_writer c) before ∙ eq-eqb c c refl) in
     let lost : Bool = loses_reader S (ends S) c in (
       channel_left lost false h.0,
       channel_released S c ∙ ap (λ b. kept_channel (option_map (channel_left lost b) (get S.chans c))) kept
@@ -318,8 +319,8 @@ released_behind S o (File node offset flags) sole there before h =
 released_behind S o (Directory node flags) sole there before h =
     ap is_directory_node (retained-node (tree_of S) (is_node_kept (without_ended S)) node
     (open_is_kept (without_ended S) o node (Directory node flags) there (one_for-same node))) ∙ h
-released_behind S o (End reads writes flags) sole there before h =
-    (h.0, left_reader S o reads writes flags sole there before h.1, left_writer S o reads writes flags sole there before h.2)
+released_behind S o (End reads writes flags form) sole there before h =
+    (h.0, left_reader S o reads writes flags form sole there before h.1, left_writer S o reads writes flags form sole there before h.2)
 released_behind S o (Process p object) sole there before h = (left_made S p h.0, h.1)
 
 -- a node that is left stays still

@@ -5,6 +5,7 @@ use Rattle.std.specs.FinMap.{get}
 use Rattle.std.specs.List.{AllByRecursion}
 use Rattle.abi_base.specs.declared.errno.Errno.TheVariants.{Again, Pipe, Success}
 use Rattle.abi_base.specs.declared.flags.TheConstants.{FDFLAG_NONBLOCK, SOCK_RECV_WAITALL}
+use Rattle.abi_types.specs.declared.chan_kind.ChanKind.{ChanKind}
 use Rattle.abi_types.specs.declared.call.Call.TheVariants.{FdRead, FdWrite, SockRecv, SockSend}
 use Rattle.abi_types.specs.declared.call.Call.{Call}
 use Rattle.abi_types.specs.declared.constants.Constants.{Constants}
@@ -98,7 +99,8 @@ pub record HasEnd (S : State) (who : Who) (call : Call) (fd : ℕ) (reads writes
   pub allowed : refusal table call ≡ None
   pub d : Descriptor
   pub there : get table fd ≡ Some d
-  pub opened : get S.opens d.id ≡ Some (End reads writes flags)
+  pub form : ChanKind
+  pub opened : get S.opens d.id ≡ Some (End reads writes flags form)
 
 -- A read of an end with nothing to read waits, or with NONBLOCK answers AGAIN; where something waits, or nothing more can come, it answers
 -- what there is.
@@ -164,7 +166,8 @@ pub record SendsOn (S : State) (who : Who) (call : Call) (given : Answer) (c : �
   pub socket : get table fd ≡ Some d
   pub reads : Option ℕ
   pub mode : ℕ
-  pub opened : get S.opens d.id ≡ Some (End reads (Some c) mode)
+  pub form : ChanKind
+  pub opened : get S.opens d.id ≡ Some (End reads (Some c) mode form)
   pub listed : carried ≡ picked table fds
 
 -- A channel that is there after a step from a valid state goes on from what it was before it: where one send more stands behind the others
@@ -198,7 +201,8 @@ pub record PutsInto (S : State) (who : Who) (call : Call) (given : Answer) (c : 
   pub socket : get table fd ≡ Some d
   pub reads : Option ℕ
   pub mode : ℕ
-  pub opened : get S.opens d.id ≡ Some (End reads (Some c) mode)
+  pub form : ChanKind
+  pub opened : get S.opens d.id ≡ Some (End reads (Some c) mode form)
 
 -- A channel that is there before a step from a valid state and after it has had one send more after it where the call puts one into it, and as
 -- many as before it where it doesn't.

@@ -19,7 +19,7 @@ end_type None writes = type.Writing
 abbrev pub fits : OpenKind → ℕ
 fits (kind.File node offset flags) = rights_of type.File
 fits (kind.Directory node flags) = rights_of type.Directory
-fits (kind.End reads writes flags) = rights_of (end_type reads writes)
+fits (kind.End reads writes flags form) = rights_of (end_type reads writes)
 fits (kind.Terminal which flags) = stream_rights which
 fits (kind.Process p object) = rights_of type.Process
 

@@ -2,6 +2,7 @@
 use Rattle.std.specs.Prelude.{◌≡◌, ◌≢◌, ◌⊎◌, ◌↔◌, ℕ, ◌+◌, Bool, true, false, List, [], length, ◌∷◌, ◌++◌, Option, None, Some, IsSome, if◌then◌else◌}
 use Rattle.std.specs.List.{AllByRecursion}
 use Rattle.std.specs.FinMap.{get}
+use Rattle.abi_types.specs.declared.chan_kind.ChanKind.{ChanKind}
 use Rattle.abi_types.specs.declared.reply.Answer.{Answer}
 use Rattle.abi_types.specs.declared.reply.Answer.TheVariants as answer
 use Rattle.abi_types.specs.declared.call.Call.{Call}
@@ -219,9 +220,9 @@ abbrev pub HungUpByEnd : Type 0
 HungUpByEnd =
     (S : State) (c : ℕ)
     → ((loses_reader S (ends S) c ≡ true)
-    ↔ ((o : ℕ) × (member o (ends S) ≡ true) × (writes : Option ℕ) × (flags : ℕ) × (get S.opens o ≡ Some (End (Some c) writes flags))))
+    ↔ ((o : ℕ) × (member o (ends S) ≡ true) × (writes : Option ℕ) × (flags : ℕ) × (form : ChanKind) × (get S.opens o ≡ Some (End (Some c) writes flags form))))
     × ((loses_writer S (ends S) c ≡ true)
-    ↔ ((o : ℕ) × (member o (ends S) ≡ true) × (reads : Option ℕ) × (flags : ℕ) × (get S.opens o ≡ Some (End reads (Some c) flags))))
+    ↔ ((o : ℕ) × (member o (ends S) ≡ true) × (reads : Option ℕ) × (flags : ℕ) × (form : ChanKind) × (get S.opens o ≡ Some (End reads (Some c) flags form))))
 
 -- A channel that has lost its reader or its writer, or not: without its reader nothing waits in it, without its writer what waits still
 -- does, and the count of all its sends stays.

@@ -80,7 +80,7 @@ GrantsAreHeld =
 abbrev pub IsOfSame : OpenKind → OpenKind → Type 0
 IsOfSame (File n offset flags) (File m other_offset other_flags) = n ≡ m
 IsOfSame (Directory n flags) (Directory m other_flags) = n ≡ m
-IsOfSame (End reads writes flags) (End other_reads other_writes other_flags) = (reads ≡ other_reads) × (writes ≡ other_writes)
+IsOfSame (End reads writes flags form) (End other_reads other_writes other_flags other_form) = (reads ≡ other_reads) × (writes ≡ other_writes) × (form ≡ other_form)
 IsOfSame (Terminal which flags) (Terminal other other_flags) = which ≡ other
 IsOfSame (Process p object) (Process q other) = (p ≡ q) × (object ≡ other)
 IsOfSame _ _ = ⊥

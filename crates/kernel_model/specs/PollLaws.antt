@@ -105,13 +105,13 @@ IsHungUp channel = (channel.writer ≢ Open) ⊎ (channel.reader ≢ Open)
 -- An end that reads a channel is ready once bytes wait there, or once none can come any more. A file, a standard stream and an end that reads
 -- none always are.
 abbrev pub IsReadable : State → OpenKind → Type 0
-IsReadable S (End (Some c) writes flags) = OnChannel S c (λ channel. (0 < length (bytes_of channel.waiting)) ⊎ IsHungUp channel)
+IsReadable S (End (Some c) writes flags form) = OnChannel S c (λ channel. (0 < length (bytes_of channel.waiting)) ⊎ IsHungUp channel)
 IsReadable S other = ⊤
 
 -- An end that writes a channel is ready once there is room for a byte, of 65,536 in all, or once the side that reads was shut or has gone. A
 -- file, a standard stream and an end that writes none always are.
 abbrev pub IsWritable : State → OpenKind → Type 0
-IsWritable S (End reads (Some c) flags) = OnChannel S c (λ channel. (length (bytes_of channel.waiting) < 65536) ⊎ (channel.reader ≢ Open))
+IsWritable S (End reads (Some c) flags form) = OnChannel S c (λ channel. (length (bytes_of channel.waiting) < 65536) ⊎ (channel.reader ≢ Open))
 IsWritable S other = ⊤
 
 -- the open is of a process, and this has ended
@@ -155,16 +155,16 @@ pub record TellsEnd (signal code : ℕ) (event : Event) : Type 0 where
 -- Of an end that reads a channel as many bytes as wait there; of one that reads none, and of all else, 0. HANGUP is set where nothing more can
 -- come, and of the end of a pipe that writes where the side that reads was shut or has gone.
 abbrev pub TellsOfRead : State → Event → OpenKind → Type 0
-TellsOfRead S event (End (Some c) writes flags) = OnChannel S c (λ channel. TellsBytes (length (bytes_of channel.waiting)) (IsHungUp channel) event)
-TellsOfRead S event (End None (Some c) flags) = OnChannel S c (λ channel. TellsBytes 0 (channel.reader ≢ Open) event)
+TellsOfRead S event (End (Some c) writes flags form) = OnChannel S c (λ channel. TellsBytes (length (bytes_of channel.waiting)) (IsHungUp channel) event)
+TellsOfRead S event (End None (Some c) flags form) = OnChannel S c (λ channel. TellsBytes 0 (channel.reader ≢ Open) event)
 TellsOfRead S event other = TellsBytes 0 ⊥ event
 
 -- Of an end that writes a channel as many bytes as there is room for, which is 65,536 less what waits; of one that writes none, and of all
 -- else, 0. HANGUP is set where the other side was shut or has gone.
 abbrev pub TellsOfWrite : State → Event → OpenKind → Type 0
-TellsOfWrite S event (End reads (Some c) flags) =
+TellsOfWrite S event (End reads (Some c) flags form) =
     OnChannel S c (λ channel. TellsBytes (65536 - length (bytes_of channel.waiting)) (channel.reader ≢ Open) event)
-TellsOfWrite S event (End (Some c) None flags) = OnChannel S c (λ channel. TellsBytes 0 (channel.writer ≢ Open) event)
+TellsOfWrite S event (End (Some c) None flags form) = OnChannel S c (λ channel. TellsBytes 0 (channel.writer ≢ Open) event)
 TellsOfWrite S event other = TellsBytes 0 ⊥ event
 
 -- of a process that has exited its code and no signal, and of one that was killed its signal and no code

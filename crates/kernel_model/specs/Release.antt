@@ -50,7 +50,7 @@ abbrev pub is_of_process : ℕ → Option OpenKind → Bool
 is_of_process p None = false
 is_of_process p (Some (File node offset flags)) = false
 is_of_process p (Some (Directory node flags)) = false
-is_of_process p (Some (End reads writes flags)) = false
+is_of_process p (Some (End reads writes flags form)) = false
 is_of_process p (Some (Terminal which flags)) = false
 is_of_process p (Some (Process q object)) = q == p
 
@@ -67,11 +67,11 @@ is_killed S ended p = list_any (λ o. is_of_process p (get S.opens o)) ended && 
 
 -- whether the open is an end that reads the channel, and whether it is one that writes it
 abbrev pub is_reader : ℕ → Option OpenKind → Bool
-is_reader c (Some (End (Some reads) writes flags)) = reads == c
+is_reader c (Some (End (Some reads) writes flags form)) = reads == c
 is_reader c _ = false
 
 abbrev pub is_writer : ℕ → Option OpenKind → Bool
-is_writer c (Some (End reads (Some writes) flags)) = writes == c
+is_writer c (Some (End reads (Some writes) flags form)) = writes == c
 is_writer c _ = false
 
 -- whether the channel loses that side by the end of these opens

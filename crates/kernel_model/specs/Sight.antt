@@ -26,7 +26,7 @@ abbrev pub behind : State → Option OpenKind → List Part
 behind S None = []
 behind S (Some (File node offset flags)) = at_node node ∷ []
 behind S (Some (Directory node flags)) = node_parts (below (tree_of S) node)
-behind S (Some (End reads writes flags)) = channel_part reads ++ channel_part writes
+behind S (Some (End reads writes flags form)) = channel_part reads ++ channel_part writes
 behind S (Some (Terminal which flags)) = at_term which ∷ []
 behind S (Some (Process p object)) = at_status p ∷ []
 

@@ -37,7 +37,7 @@ HasWriter chans (Some c) = (channel : Channel) × (get chans c ≡ Some channel)
 abbrev pub HasBehind : State → OpenKind → Type 0
 HasBehind S (kind.File node offset flags) = is_file (tree_of S) node ≡ true
 HasBehind S (kind.Directory node flags) = is_directory (tree_of S) node ≡ true
-HasBehind S (kind.End reads writes flags) = ((is_some reads || is_some writes) ≡ true) × HasReader S.chans reads × HasWriter S.chans writes
+HasBehind S (kind.End reads writes flags form) = ((is_some reads || is_some writes) ≡ true) × HasReader S.chans reads × HasWriter S.chans writes
 HasBehind S (kind.Terminal which flags) = IsSome (get S.terms which) × (which < 3)
 HasBehind S (kind.Process p object) = IsSome (get S.statuses p) × (p ≢ 0)
 

@@ -10,6 +10,7 @@ use Rattle.std.specs.FinMap.{FinMap, get}
 use Rattle.std.specs.Prelude.{take}
 use Rattle.abi_base.specs.declared.errno.Errno.TheVariants.{Badf, Fbig}
 use Rattle.abi_structures.specs.declared.events.Subscription.{Subscription}
+use Rattle.abi_types.specs.declared.chan_kind.ChanKind.{ChanKind}
 use Rattle.abi_types.specs.Families.{IsOf, answer_of, call_of_change, call_of_entry, call_of_file, call_of_offset, call_of_socket, fd_of_offset, is_anonymous, is_unbuilt, zeros_of}
 use Rattle.abi_types.specs.declared.call.Call.{Call}
 use Rattle.abi_types.specs.declared.call.Call.TheVariants as call
@@ -85,8 +86,8 @@ module _ (S : State) where
   read_parks fd n o None = refl
   read_parks fd n o (Some (File node offset flags)) = refl
   read_parks fd n o (Some (Directory node flags)) = refl
-  read_parks fd n o (Some (End None writes flags)) = refl
-  read_parks fd n o (Some (End (Some c) writes flags)) = refl
+  read_parks fd n o (Some (End None writes flags form)) = refl
+  read_parks fd n o (Some (End (Some c) writes flags form)) = refl
   read_parks fd n o (Some (Terminal which flags)) = from_term n which (get S.terms which)
   read_parks fd n o (Some (Process p object)) = refl
 
@@ -114,19 +115,19 @@ module _ (S : State) where
         | false ↦ refl
       ]
 
-  write_end : (fd now o : ℕ) (bytes : List ℕ) (reads writes : Option ℕ) (flags : ℕ)
-      → is_parked (write_open now (whole S) bytes o (Some (End reads writes flags))).answer
-      ≡ is_parked (end_at S.chans (Some (End reads writes flags)) (call.FdWrite fd bytes)).answer
-  write_end fd now o [] reads writes flags = refl
-  write_end fd now o (b ∷ bytes) reads None flags = refl
-  write_end fd now o (b ∷ bytes) reads (Some c) flags = refl
+  write_end : (fd now o : ℕ) (bytes : List ℕ) (reads writes : Option ℕ) (flags : ℕ) (form : ChanKind)
+      → is_parked (write_open now (whole S) bytes o (Some (End reads writes flags form))).answer
+      ≡ is_parked (end_at S.chans (Some (End reads writes flags form)) (call.FdWrite fd bytes)).answer
+  write_end fd now o [] reads writes flags form = refl
+  write_end fd now o (b ∷ bytes) reads None flags form = refl
+  write_end fd now o (b ∷ bytes) reads (Some c) flags form = refl
 
   write_parks : (fd now o : ℕ) (bytes : List ℕ) (kind : Option OpenKind)
       → is_parked (write_open now (whole S) bytes o kind).answer ≡ is_parked (end_at S.chans kind (call.FdWrite fd bytes)).answer
   write_parks fd now o bytes None = refl
   write_parks fd now o bytes (Some (File node offset flags)) = to_file node flags now (write_place (whole S).branch node offset flags) bytes
   write_parks fd now o bytes (Some (Directory node flags)) = refl
-  write_parks fd now o bytes (Some (End reads writes flags)) = write_end fd now o bytes reads writes flags
+  write_parks fd now o bytes (Some (End reads writes flags form)) = write_end fd now o bytes reads writes flags form
   write_parks fd now o bytes (Some (Terminal which flags)) = to_term bytes which (get S.terms which)
   write_parks fd now o bytes (Some (Process p object)) = refl
 
@@ -136,11 +137,11 @@ module _ (S : State) where
   write_at fd now bytes None = refl
   write_at fd now bytes (Some d) = write_parks fd now d.id bytes (get S.opens d.id)
 
-  send_end : (fd : ℕ) (bytes fds : List ℕ) (flags r w mode : ℕ) (table : Table)
-      → is_parked (send_open (whole S) bytes (picked table fds) (Some (End (Some r) (Some w) mode))).answer
-      ≡ is_parked (socket_at 0 table S.chans (Some (End (Some r) (Some w) mode)) (call.SockSend fd bytes fds flags)).answer
-  send_end fd [] fds flags r w mode table = refl
-  send_end fd (b ∷ bytes) fds flags r w mode table = refl
+  send_end : (fd : ℕ) (bytes fds : List ℕ) (flags r w mode : ℕ) (form : ChanKind) (table : Table)
+      → is_parked (send_open (whole S) bytes (picked table fds) (Some (End (Some r) (Some w) mode form))).answer
+      ≡ is_parked (socket_at 0 table S.chans (Some (End (Some r) (Some w) mode form)) (call.SockSend fd bytes fds flags)).answer
+  send_end fd [] fds flags r w mode form table = refl
+  send_end fd (b ∷ bytes) fds flags r w mode form table = refl
 
   send_parks : (fd : ℕ) (bytes fds : List ℕ) (flags : ℕ) (table : Table) (kind : Option OpenKind)
       → is_parked (send_open (whole S) bytes (picked table fds) kind).answer
@@ -148,9 +149,9 @@ module _ (S : State) where
   send_parks fd bytes fds flags table None = refl
   send_parks fd bytes fds flags table (Some (File node offset mode)) = refl
   send_parks fd bytes fds flags table (Some (Directory node mode)) = refl
-  send_parks fd bytes fds flags table (Some (End None writes mode)) = refl
-  send_parks fd bytes fds flags table (Some (End (Some r) None mode)) = refl
-  send_parks fd bytes fds flags table (Some (End (Some r) (Some w) mode)) = send_end fd bytes fds flags r w mode table
+  send_parks fd bytes fds flags table (Some (End None writes mode form)) = refl
+  send_parks fd bytes fds flags table (Some (End (Some r) None mode form)) = refl
+  send_parks fd bytes fds flags table (Some (End (Some r) (Some w) mode form)) = send_end fd bytes fds flags r w mode form table
   send_parks fd bytes fds flags table (Some (Terminal which mode)) = refl
   send_parks fd bytes fds flags table (Some (Process p object)) = refl
 
@@ -189,9 +190,9 @@ module _ (S : State) where
   receive_parks fd p n room flags table None = refl
   receive_parks fd p n room flags table (Some (File node offset mode)) = refl
   receive_parks fd p n room flags table (Some (Directory node mode)) = refl
-  receive_parks fd p n room flags table (Some (End None writes mode)) = refl
-  receive_parks fd p n room flags table (Some (End (Some r) None mode)) = refl
-  receive_parks fd p n room flags table (Some (End (Some r) (Some w) mode)) = receive_alike p 0 n room flags r table (is_nonblocking mode) (get S.chans r)
+  receive_parks fd p n room flags table (Some (End None writes mode form)) = refl
+  receive_parks fd p n room flags table (Some (End (Some r) None mode form)) = refl
+  receive_parks fd p n room flags table (Some (End (Some r) (Some w) mode form)) = receive_alike p 0 n room flags r table (is_nonblocking mode) (get S.chans r)
   receive_parks fd p n room flags table (Some (Terminal which mode)) = refl
   receive_parks fd p n room flags table (Some (Process q object)) = refl
 
@@ -237,7 +238,7 @@ module _ (constants : Constants) (opens : FinMap nat_cmp OpenKind) (channels : F
   no_seek None fd bits whence = refl
   no_seek (Some (File node offset flags)) fd bits whence = refl
   no_seek (Some (Directory node flags)) fd bits whence = refl
-  no_seek (Some (End reads writes flags)) fd bits whence = refl
+  no_seek (Some (End reads writes flags form)) fd bits whence = refl
   no_seek (Some (Terminal which flags)) fd bits whence = refl
   no_seek (Some (Process p object)) fd bits whence = refl
 
@@ -251,9 +252,9 @@ module _ (constants : Constants) (opens : FinMap nat_cmp OpenKind) (channels : F
   no_shutdown None fd how = refl
   no_shutdown (Some (File node offset flags)) fd how = refl
   no_shutdown (Some (Directory node flags)) fd how = refl
-  no_shutdown (Some (End None writes flags)) fd how = refl
-  no_shutdown (Some (End (Some r) None flags)) fd how = refl
-  no_shutdown (Some (End (Some r) (Some w) flags)) fd how = refl
+  no_shutdown (Some (End None writes flags form)) fd how = refl
+  no_shutdown (Some (End (Some r) None flags form)) fd how = refl
+  no_shutdown (Some (End (Some r) (Some w) flags form)) fd how = refl
   no_shutdown (Some (Terminal which flags)) fd how = refl
   no_shutdown (Some (Process p object)) fd how = refl
 

@@ -14,6 +14,7 @@ use Rattle.std.proofs.lemmas.Bool.Decides.{eqb_tells}
 use Rattle.std.specs.Ordering.{nat_cmp}
 use Rattle.std.specs.Option.{option_map}
 use Rattle.std.specs.FinMap.{FinMap, get, empty, insert, len, remove, retain_keys}
+use Rattle.abi_types.specs.declared.chan_kind.ChanKind.{ChanKind}
 use Rattle.abi_types.specs.declared.open_kind.OpenKind.{OpenKind}
 use Rattle.abi_types.specs.declared.open_kind.OpenKind.TheVariants.{File, Directory, End, Terminal, Process}
 use Rattle.abi_types.specs.declared.status.Status.{Status}
@@ -103,12 +104,12 @@ removed kinds o r =
 
 -- the open is no end of channels
 abbrev pub IsNoEnd : OpenKind → Type 0
-IsNoEnd kind = (reads writes : Option ℕ) (flags : ℕ) → kind ≢ End reads writes flags
+IsNoEnd kind = (reads writes : Option ℕ) (flags : ℕ) (form : ChanKind) → kind ≢ End reads writes flags form
 
 no_side : (kind : OpenKind) (c : ℕ) → IsNoEnd kind → (is_reader c (Some kind) ≡ false) × (is_writer c (Some kind) ≡ false)
 no_side (File node offset flags) c n = (refl, refl)
 no_side (Directory node flags) c n = (refl, refl)
-no_side (End reads writes flags) c n = absurd (n reads writes flags refl)
+no_side (End reads writes flags form) c n = absurd (n reads writes flags form refl)
 no_side (Terminal which flags) c n = (refl, refl)
 no_side (Process p object) c n = (refl, refl)
 
@@ -150,7 +151,7 @@ module _ (C : State) (o : ℕ) where
       let others : (q : ℕ) → q ≢ p → is_killed C (o ∷ []) q ≡ false =
       λ q apart. kills q ∙ ap (λ c. (c || false) && lives (get C.statuses q)) (other_number p q apart) in
       let some : b ≡ true → is_some (get C.statuses p) ≡ true = lives_some (get C.statuses p) in
-      let chans : C.chans ≡ (without (o ∷ []) C).chans = chans_then (Process p object) there (λ reads writes flags e. cc) in
+      let chans : C.chans ≡ (without (o ∷ []) C).chans = chans_then (Process p object) there (λ reads writes flags form e. cc) in
       let first : tables ≡ (without (o ∷ []) C).tables =
       is.left_tables ∙ put_left C.tables table_left empty p b (is_killed C (o ∷ [])) here others same_table
       (λ alive. emptied (get C.tables p) (all_tables p ∙ some alive)) in
@@ -180,7 +181,7 @@ module _ (C : State) (o : ℕ) where
       no_process : (k : OpenKind) (q : ℕ) → ((p object : ℕ) → k ≢ Process p object) → is_of_process q (Some k) ≡ false
       no_process (File node offset flags) q n = refl
       no_process (Directory node flags) q n = refl
-      no_process (End reads writes flags) q n = refl
+      no_process (End reads writes flags form) q n = refl
       no_process (Terminal which flags) q n = refl
       no_process (Process p object) q n = absurd (n p object refl)
 
@@ -379,10 +380,10 @@ module _ (first : State) (old t : Tree) (tables : FinMap nat_cmp Table) (process
           by_test false = same q
 
   -- an end has gone
-  pub after_end : (reads writes : Option ℕ) (flags : ℕ) (new_channels : Channels) (hung : Held) → kind ≡ End reads writes flags → hung.kinds ≡ new.kinds
+  pub after_end : (reads writes : Option ℕ) (flags : ℕ) (form : ChanKind) (new_channels : Channels) (hung : Held) → kind ≡ End reads writes flags form → hung.kinds ≡ new.kinds
       → new_channels ≡ channels_left kind channels → AllGoOn new_channels → AreCarried channels new_channels new.counts hung.counts
       → (AreFew channels → AreFew new_channels) → IsGoing first old tables processes statuses new_channels hung t
-  after_end reads writes flags new_channels hung of kinds are going_on counts few =
+  after_end reads writes flags form new_channels hung of kinds are going_on counts few =
       let left : hung.kinds ≡ remove h.kinds o = kinds ∙ kinds_are in
       let state = without_end now o kind there (λ p object e. no_process p object (sym of ∙ e)) in
       let by : LetsGo first (state_by tables processes statuses (remove h.kinds o) (sides_left kind going.all) old) = subst (LetsGo first) (sym state) next in
@@ -401,7 +402,7 @@ module _ (first : State) (old t : Tree) (tables : FinMap nat_cmp Table) (process
         tree = going.tree;
       }
     where
-      no_process : (p object : ℕ) → End reads writes flags ≢ Process p object
+      no_process : (p object : ℕ) → End reads writes flags form ≢ Process p object
       no_process p object e = cc
 
   other_goes : ((p object : ℕ) → kind ≢ Process p object) → IsNoEnd kind → LetsGo first (state_by tables processes statuses (remove h.kinds o) going.all old)

@@ -84,10 +84,16 @@ fn with_flags(kind: OpenKind, flags: u16) -> OpenKind
             flags,
         },
         OpenKind::Directory { node, .. } => OpenKind::Directory { node, flags },
-        OpenKind::End { reads, writes, .. } => OpenKind::End {
+        OpenKind::End {
+            reads,
+            writes,
+            kind,
+            ..
+        } => OpenKind::End {
             reads,
             writes,
             flags,
+            kind,
         },
         OpenKind::Terminal { which, .. } => OpenKind::Terminal { which, flags },
         OpenKind::Process { pid, object } => OpenKind::Process { pid, object },

@@ -26,7 +26,7 @@ one_for_itself n = ap (λ b. cond b 1 0) (eq-eqb n n refl)
 one_of_node_few : (n : ℕ) (kind : OpenKind) → one_of_node n kind ≤ 1
 one_of_node_few n (File node offset flags) = one_for_few n node
 one_of_node_few n (Directory node flags) = one_for_few n node
-one_of_node_few n (End reads writes flags) = omega arith
+one_of_node_few n (End reads writes flags form) = omega arith
 one_of_node_few n (Terminal which flags) = omega arith
 one_of_node_few n (Process p object) = omega arith
 

@@ -32,9 +32,9 @@ module _ (S : State) where
   read_seen userdata None = refl
   read_seen userdata (Some (File node offset flags)) = refl
   read_seen userdata (Some (Directory node flags)) = refl
-  read_seen userdata (Some (End None None flags)) = refl
-  read_seen userdata (Some (End None (Some c) flags)) = refl
-  read_seen userdata (Some (End (Some c) writes flags)) = refl
+  read_seen userdata (Some (End None None flags form)) = refl
+  read_seen userdata (Some (End None (Some c) flags form)) = refl
+  read_seen userdata (Some (End (Some c) writes flags form)) = refl
   read_seen userdata (Some (Terminal which flags)) = refl
   read_seen userdata (Some (Process p object)) = refl
 
@@ -42,10 +42,10 @@ module _ (S : State) where
   write_seen userdata None = refl
   write_seen userdata (Some (File node offset flags)) = refl
   write_seen userdata (Some (Directory node flags)) = refl
-  write_seen userdata (Some (End None None flags)) = refl
-  write_seen userdata (Some (End (Some c) None flags)) = refl
-  write_seen userdata (Some (End None (Some c) flags)) = refl
-  write_seen userdata (Some (End (Some r) (Some c) flags)) = refl
+  write_seen userdata (Some (End None None flags form)) = refl
+  write_seen userdata (Some (End (Some c) None flags form)) = refl
+  write_seen userdata (Some (End None (Some c) flags form)) = refl
+  write_seen userdata (Some (End (Some r) (Some c) flags form)) = refl
   write_seen userdata (Some (Terminal which flags)) = refl
   write_seen userdata (Some (Process p object)) = refl
 
@@ -53,7 +53,7 @@ module _ (S : State) where
   end_seen userdata None = refl
   end_seen userdata (Some (File node offset flags)) = refl
   end_seen userdata (Some (Directory node flags)) = refl
-  end_seen userdata (Some (End reads writes flags)) = refl
+  end_seen userdata (Some (End reads writes flags form)) = refl
   end_seen userdata (Some (Terminal which flags)) = refl
   end_seen userdata (Some (Process p object)) = refl
 

@@ -7,6 +7,6 @@ use Rattle.abi_types.specs.declared.open_kind.OpenKind.TheVariants.{Directory, E
 abbrev pub node_of_file : OpenKind → Option ℕ
 node_of_file (File node offset flags) = Some node
 node_of_file (Directory node flags) = None
-node_of_file (End reads writes flags) = None
+node_of_file (End reads writes flags form) = None
 node_of_file (Terminal which flags) = None
 node_of_file (Process p object) = None

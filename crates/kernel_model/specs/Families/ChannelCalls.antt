@@ -146,12 +146,12 @@ receive_from p table n room flags nonblocking c (Some channel) =
 -- calls on sockets are on an end that reads a channel and writes one
 abbrev pub send_open : View → List ℕ → List Descriptor → Option OpenKind → Outcome
 send_open v bytes carried None = replies (refused Badf)
-send_open v bytes carried (Some (End (Some reads) (Some writes) flags)) = send_on sent_reply v flags bytes carried (Some writes)
+send_open v bytes carried (Some (End (Some reads) (Some writes) flags form)) = send_on sent_reply v flags bytes carried (Some writes)
 send_open v bytes carried (Some other) = replies (refused Notsock)
 
 abbrev pub receive_open : ℕ → Table → View → ℕ → ℕ → ℕ → Option OpenKind → Outcome
 receive_open p table v n room flags None = replies (refused Badf)
-receive_open p table v n room flags (Some (End (Some reads) (Some writes) mode)) =
+receive_open p table v n room flags (Some (End (Some reads) (Some writes) mode form)) =
     receive_from p table n room flags (is_nonblocking mode) reads (v.channel reads)
 receive_open p table v n room flags (Some other) = replies (refused Notsock)
 
@@ -165,7 +165,7 @@ shut_if test shut c channel = []
 -- the end is shut: with RD for what comes, which is dropped, and with WR for what it sends
 abbrev pub shut_open : View → ℕ → Option OpenKind → Outcome
 shut_open v how None = replies (refused Badf)
-shut_open v how (Some (End (Some reads) (Some writes) flags)) = record {
+shut_open v how (Some (End (Some reads) (Some writes) flags form)) = record {
   answer = answer.Reply (success 0 0);
   updates =
       shut_if (not (bit_and how SHUT_RD == 0)) with_reader_shut reads (v.channel reads)
@@ -177,13 +177,13 @@ shut_open v how (Some other) = replies (refused Notsock)
 
 -- the channel that an end writes, the one that it reads, and both
 abbrev pub sent_part : Option OpenKind → List Part
-sent_part (Some (End reads writes flags)) = channel_part writes
+sent_part (Some (End reads writes flags form)) = channel_part writes
 sent_part other = []
 
 abbrev pub received_part : Option OpenKind → List Part
-received_part (Some (End reads writes flags)) = channel_part reads
+received_part (Some (End reads writes flags form)) = channel_part reads
 received_part other = []
 
 abbrev pub both_parts : Option OpenKind → List Part
-both_parts (Some (End reads writes flags)) = channel_part reads ++ channel_part writes
+both_parts (Some (End reads writes flags form)) = channel_part reads ++ channel_part writes
 both_parts other = []

@@ -127,8 +127,8 @@ fd_replace from to = record {
 abbrev pub type_number : OpenKind → ℕ
 type_number (File node offset flags) = FILETYPE_REGULAR_FILE
 type_number (Directory node flags) = FILETYPE_DIRECTORY
-type_number (End (Some reads) (Some writes) flags) = FILETYPE_SOCKET_STREAM
-type_number (End reads writes flags) = FILETYPE_FIFO
+type_number (End (Some reads) (Some writes) flags form) = FILETYPE_SOCKET_STREAM
+type_number (End reads writes flags form) = FILETYPE_FIFO
 type_number (Terminal which flags) = FILETYPE_CHARACTER_DEVICE
 type_number (Process p object) = FILETYPE_PROCESS
 
@@ -136,7 +136,7 @@ type_number (Process p object) = FILETYPE_PROCESS
 abbrev pub flags_of : OpenKind → ℕ
 flags_of (File node offset flags) = flags
 flags_of (Directory node flags) = flags
-flags_of (End reads writes flags) = flags
+flags_of (End reads writes flags form) = flags
 flags_of (Terminal which flags) = flags
 flags_of (Process p object) = 0
 
@@ -181,7 +181,7 @@ stat_put_row fd stat flags =
 abbrev pub with_flags : OpenKind → ℕ → OpenKind
 with_flags (File node offset flags) new = File node offset new
 with_flags (Directory node flags) new = Directory node new
-with_flags (End reads writes flags) new = End reads writes new
+with_flags (End reads writes flags form) new = End reads writes new form
 with_flags (Terminal which flags) new = Terminal which new
 with_flags (Process p object) new = Process p object
 

@@ -81,9 +81,9 @@ abbrev pub report_open : Tree → Option OpenKind → Outcome
 report_open t None = replies (refused Badf)
 report_open t (Some (File node offset flags)) = report_in t node
 report_open t (Some (Directory node flags)) = report_in t node
-report_open t (Some (End (Some reads) writes flags)) = reported (object_stat reads (type_number (End (Some reads) writes flags)))
-report_open t (Some (End None (Some writes) flags)) = reported (object_stat writes (type_number (End None (Some writes) flags)))
-report_open t (Some (End None None flags)) = replies (refused Badf)
+report_open t (Some (End (Some reads) writes flags form)) = reported (object_stat reads (type_number (End (Some reads) writes flags form)))
+report_open t (Some (End None (Some writes) flags form)) = reported (object_stat writes (type_number (End None (Some writes) flags form)))
+report_open t (Some (End None None flags form)) = replies (refused Badf)
 report_open t (Some (Terminal which flags)) = reported (object_stat (launch_object (which + 1)) (type_number (Terminal which flags)))
 report_open t (Some (Process p object)) = reported (object_stat object (type_number (Process p object)))
 

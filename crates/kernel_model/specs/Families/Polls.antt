@@ -72,14 +72,14 @@ writing_event userdata (Some channel) =
 
 -- FD_READ of an open: an end by the channel that it reads. One that reads none, and a file or a standard stream, is ready.
 abbrev pub read_event : ℕ → View → Option OpenKind → Option Event
-read_event userdata v (Some (End (Some c) writes flags)) = reading_event userdata (v.channel c)
-read_event userdata v (Some (End None (Some c) flags)) = Some (bytes_event userdata type.FdRead 0 (has_no_reader (v.channel c)))
+read_event userdata v (Some (End (Some c) writes flags form)) = reading_event userdata (v.channel c)
+read_event userdata v (Some (End None (Some c) flags form)) = Some (bytes_event userdata type.FdRead 0 (has_no_reader (v.channel c)))
 read_event userdata v other = Some (bytes_event userdata type.FdRead 0 false)
 
 -- FD_WRITE of an open, in the same way
 abbrev pub write_event : ℕ → View → Option OpenKind → Option Event
-write_event userdata v (Some (End reads (Some c) flags)) = writing_event userdata (v.channel c)
-write_event userdata v (Some (End (Some c) None flags)) = Some (bytes_event userdata type.FdWrite 0 (has_no_writer (v.channel c)))
+write_event userdata v (Some (End reads (Some c) flags form)) = writing_event userdata (v.channel c)
+write_event userdata v (Some (End (Some c) None flags form)) = Some (bytes_event userdata type.FdWrite 0 (has_no_writer (v.channel c)))
 write_event userdata v other = Some (bytes_event userdata type.FdWrite 0 false)
 
 -- PROC_TERMINATE of a process with this status

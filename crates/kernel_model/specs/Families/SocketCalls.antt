@@ -4,6 +4,7 @@ use Rattle.std.specs.FinMap.{empty, get, insert}
 use Rattle.abi_base.specs.declared.errno.Errno.TheVariants.{Again, Badf, Mfile, Notsock, Notsup, Pipe}
 use Rattle.abi_base.specs.declared.rights.TheConstants.Rights.{FD_READ, FD_WRITE, SOCK_SHUTDOWN}
 use Rattle.abi_base.specs.declared.flags.TheConstants.{FILETYPE_FIFO, FILETYPE_SOCKET_STREAM}
+use Rattle.abi_types.specs.declared.chan_kind.ChanKind.TheVariants as chan_kind
 use Rattle.abi_types.specs.declared.descriptor.Descriptor.{Descriptor}
 use Rattle.abi_types.specs.declared.open_kind.OpenKind.{OpenKind}
 use Rattle.abi_types.specs.declared.open_kind.OpenKind.TheVariants.{End}
@@ -40,12 +41,12 @@ count_of pair = 4
 
 -- The channels come first, then the end that is the first result, then the other one.
 abbrev pub first_end : Pair → ℕ → Option ProcessState → OpenKind
-first_end pipe p own = End (Some (next_object p own 1)) None 0
-first_end pair p own = End (Some (next_object p own 1)) (Some (next_object p own 2)) 0
+first_end pipe p own = End (Some (next_object p own 1)) None 0 chan_kind.Stream
+first_end pair p own = End (Some (next_object p own 1)) (Some (next_object p own 2)) 0 chan_kind.Stream
 
 abbrev pub second_end : Pair → ℕ → Option ProcessState → OpenKind
-second_end pipe p own = End None (Some (next_object p own 1)) 0
-second_end pair p own = End (Some (next_object p own 2)) (Some (next_object p own 1)) 0
+second_end pipe p own = End None (Some (next_object p own 1)) 0 chan_kind.Stream
+second_end pair p own = End (Some (next_object p own 2)) (Some (next_object p own 1)) 0 chan_kind.Stream
 
 abbrev pub first_number : Pair → ℕ → Option ProcessState → ℕ
 first_number pipe p own = next_object p own 2

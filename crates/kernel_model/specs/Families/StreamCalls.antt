@@ -24,13 +24,13 @@ use Rattle.kernel_model.specs.View.{View}
 -- what is read from by an open, beside a file: a standard stream, or the channel that an end reads
 abbrev pub stream_part : Option OpenKind → List Part
 stream_part (Some (Terminal which flags)) = at_term which ∷ []
-stream_part (Some (End reads writes flags)) = channel_part reads
+stream_part (Some (End reads writes flags form)) = channel_part reads
 stream_part _ = []
 
 -- what is written to by an open: a standard stream, a file, or the channel that an end writes
 abbrev pub written_part : Option OpenKind → List Part
 written_part (Some (Terminal which flags)) = at_term which ∷ []
-written_part (Some (End reads writes flags)) = channel_part writes
+written_part (Some (End reads writes flags form)) = channel_part writes
 written_part (Some (File node offset flags)) = at_node node ∷ []
 written_part _ = []
 
@@ -49,7 +49,7 @@ abbrev pub write_open : ℕ → View → List ℕ → ℕ → Option OpenKind �
 write_open now v bytes o None = replies (refused Badf)
 write_open now v bytes o (Some (Terminal which flags)) = write_term bytes which (v.term which)
 write_open now v bytes o (Some (File node offset flags)) = with_offset o (write_on v.branch node offset flags now bytes)
-write_open now v bytes o (Some (End reads writes flags)) = send_on written_reply v flags bytes [] writes
+write_open now v bytes o (Some (End reads writes flags form)) = send_on written_reply v flags bytes [] writes
 write_open now v bytes o (Some _) = replies (refused Badf)
 
 abbrev pub writing : List ℕ → OpenMeaning
@@ -79,7 +79,7 @@ abbrev pub read_open : View → ℕ → ℕ → Option OpenKind → Outcome
 read_open v n o None = replies (refused Badf)
 read_open v n o (Some (Terminal which flags)) = read_term n which (v.term which)
 read_open v n o (Some (File node offset flags)) = with_offset o (read_on v.branch node offset flags n)
-read_open v n o (Some (End reads writes flags)) = read_end v n flags reads
+read_open v n o (Some (End reads writes flags form)) = read_end v n flags reads
 read_open v n o (Some _) = replies (refused Badf)
 
 abbrev pub reading : ℕ → OpenMeaning

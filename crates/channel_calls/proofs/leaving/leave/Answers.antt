@@ -8,7 +8,7 @@ use Rattle.channel_calls.proofs.leaving.leave.Goals as goal
 
 pub returns-in_default : goal.returns-in_default
 returns-in_default c = record {
-  channels = other_left c.args.kind.now c.args.channels.now c.requires.going (λ reads writes flags is. c.in_default.not-End reads writes flags is);
+  channels = other_left c.args.kind.now c.args.channels.now c.requires.going c.in_default.not-End;
   going = c.requires.going;
   kinds = refl;
   counts = λ o. refl;
@@ -21,7 +21,7 @@ leave_side-requires-2-clause-going c = subst (λ (m : Channels). AllGoOn m) (sym
 pub returns-clause-channels : goal.returns-clause-channels
 returns-clause-channels c =
     c.leave_side-2.ensures.channels ∙ ap (λ (m : Channels). channels_left (end_at Writer c.in-End.writes) m) c.leave_side.ensures.channels
-    ∙ both_left c.in-End.reads c.in-End.writes c.in-End.flags c.args.channels.now
+    ∙ both_left c.in-End.reads c.in-End.writes c.in-End.flags c.in-End.kind c.args.channels.now
     ∙ ap (λ (k : OpenKind). channels_left k c.args.channels.now) (sym c.in-End.is)
 
 pub returns-clause-going : goal.returns-clause-going

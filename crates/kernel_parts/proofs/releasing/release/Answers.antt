@@ -59,7 +59,7 @@ pub loop-kind-preserved-in-End : goal.loop-kind-preserved-in-End
 loop-kind-preserved-in-End c =
     after_end (state_by c.args.tables.now c.args.processes.now c.args.statuses.now c.args.objects.now.kinds c.args.channels.now c.args.tree.now) c.args.tree.now
     c.loop-kind.tree c.loop-kind.tables c.loop-kind.processes c.loop-kind.statuses c.loop-kind.channels c.loop-kind.objects c.pop_unheld.new.self
-    c.in-Some.field-0-0 c.in-Some.kind c.in-Some.ensures.unheld c.in-Some.ensures.kind c.in-Some.ensures.new c.loop-kind.invariant _ _ _
+    c.in-Some.field-0-0 c.in-Some.kind c.in-Some.ensures.unheld c.in-Some.ensures.kind c.in-Some.ensures.new c.loop-kind.invariant _ _ _ _
     c.leave.new.channels c.leave.new.objects c.in-End.is c.leave.ensures.kinds c.leave.ensures.channels c.leave.ensures.going c.leave.ensures.counts
     c.leave.ensures.few
 

@@ -4,10 +4,10 @@ use Rattle.channels.proofs.channel.Channel.reach.Goals as goal
 
 pub returns-clause-count : goal.returns-clause-count
 returns-clause-count c =
-    c.reach_in.ensures ∙ ap (min c.args.asked) (reach_was _ _ _ _ _ _ c.self.inside.writer _ _ c.self.invariant _ c.self.view_is) ∙ sym (bytes_read _ _ _ _ _ _ c.self.inside.writer _ _ c.self.invariant _ c.self.view_is c.args.asked)
+    c.reach_in.ensures ∙ ap (min c.args.asked) (reach_was c.self.inside.kind _ _ _ _ _ _ c.self.inside.writer _ _ c.self.invariant _ c.self.view_is) ∙ sym (bytes_read c.self.inside.kind _ _ _ _ _ _ c.self.inside.writer _ _ c.self.invariant _ c.self.view_is c.args.asked)
 
 pub returns-clause-most : goal.returns-clause-most
-returns-clause-most c = c.reach_in.ensures ∙ ap (min c.args.asked) (reach_was _ _ _ _ _ _ c.self.inside.writer _ _ c.self.invariant _ c.self.view_is)
+returns-clause-most c = c.reach_in.ensures ∙ ap (min c.args.asked) (reach_was c.self.inside.kind _ _ _ _ _ _ c.self.inside.writer _ _ c.self.invariant _ c.self.view_is)
 
 pub returns-clause-may_be : goal.returns-clause-may_be
-returns-clause-may_be c = IsChannel-old _ _ _ _ _ _ c.self.inside.writer _ _ c.self.invariant _ c.self.view_is
+returns-clause-may_be c = IsChannel-old c.self.inside.kind _ _ _ _ _ _ c.self.inside.writer _ _ c.self.invariant _ c.self.view_is

@@ -100,7 +100,7 @@ returns-in-End d = λ table here.
     let r = d.end_call.result in
     let is : end_outcome S.chans d.in-Some.kind called ≡ offset_outcome d.args.constants.now S f.table d.args.fd called =
     ap (λ kind. end_outcome S.chans kind called) e.is
-    ∙ sym (end_outcome_is d.args.constants.now S f.table d.args.fd called d.in-Some.descriptor e.reads e.writes e.flags d.requires.on f.named (f.opened ∙ ap Some e.is)) in
+    ∙ sym (end_outcome_is d.args.constants.now S f.table d.args.fd called d.in-Some.descriptor e.reads e.writes e.flags e.kind d.requires.on f.named (f.opened ∙ ap Some e.is)) in
     at_found (goal.at.returns-in-End d).In-Some table U r (end_outcome S.chans d.in-Some.kind called) here is
     (done_seen T S (sym d.self.view_is) takes (λ X. end_outcome X.chans d.in-Some.kind called) U r d.end_call.ensures)
 
