@@ -2,18 +2,19 @@
 use Rattle.std.proofs.Common.{◌≡◌, ◌≢◌, ◌↔◌, ℕ, Bool, Less, Equal, Greater, false, true, T, is_some, IsSome, IsNone, IsTrue, ◌==◌, ◌&&◌, nat_le, nat_lt, inl, inr, subst, ◌<◌, ◌≤◌, ◌+◌, cond, List, [], ◌∷◌, length, Option, Some, None, sym, ap, ◌∙◌, refl, arith}
 use Rattle.std.proofs.lemmas.Bool.{le-leb, lt-leb, lt-ltb, le-ltb}
 use Rattle.std.proofs.lemmas.Bool.Decides.{eqb_tells}
-use Rattle.std.specs.Ordering.{nat_cmp, eq_by_cmp, is_gt, is_le, is_lt}
+use Rattle.std.specs.Ordering.{nat_cmp, eq_by_cmp, is_eq, is_gt, is_le, is_lt}
 use Rattle.std.specs.Cmp.{nat_cmp_total, eq_by_cmp_equiv, ranked}
 use Rattle.std.specs.Map.{lookup, keys_of}
-use Rattle.std.specs.List.{AllByRecursion}
+use Rattle.std.specs.List.{AllByRecursion, filter}
+use Rattle.std.proofs.lemmas.Map.Entries.{lookup-filter-keys}
 use Rattle.std.specs.List.Sorted.{IsStrictlySortedBy}
 use Rattle.std.specs.BTreeMap.{is_at}
 use Rattle.std.specs.BTreeMap.Range.{entries_between, range_contains}
 use Rattle.std.specs.declared.ops.Bound.{Bound}
 use Rattle.std.specs.declared.ops.Bound.TheVariants.{Included, Excluded, Unbounded}
 use Rattle.std.specs.FinMap.Entries.{by_order}
-use Rattle.std.specs.FinMap.{FinMap, from_entries, find, put, get, insert, remove, empty, entries, len, len-entries, len-empty, get-empty, empty_of_len, entries-insert, get-from_entries, get-insert, get-remove, same_map, nat_cmp-IsAntisymmetric}
-use Rattle.maps.specs.Maps.{get-insert-same, len-removed, least_key, first_key}
+use Rattle.std.specs.FinMap.{FinMap, from_entries, find, put, get, insert, remove, retain_keys, empty, entries, len, len-entries, len-empty, get-empty, empty_of_len, entries-insert, get-from_entries, get-insert, get-remove, same_map, nat_cmp-IsAntisymmetric}
+use Rattle.maps.specs.Maps.{get-insert-same, get-retain, same_numbers, len-removed, least_key, first_key}
 
 has_none : {A : Type 0} (x : A) → Some x ≢ None
 has_none x e = subst T (ap is_some e) tt
@@ -32,6 +33,15 @@ not_above k q =
 no_items : {A : Type 0} (xs : List A) → length xs ≡ 0 → xs ≡ []
 no_items [] e = refl
 no_items (x ∷ xs) e = absurd (omega arith)
+
+-- an entry whose key ties is at that number
+key_at : (q k : ℕ) → is_at (nat_cmp q) k ≡ true → k ≡ q
+key_at q k =
+    elim (nat_cmp q k) as (λ r. nat_cmp q k ≡ r → is_eq r ≡ true → k ≡ q) [
+      | Less ↦ λ _ h. absurd (not_true h)
+      | Equal ↦ λ e _. sym (nat_cmp-IsAntisymmetric q k e)
+      | Greater ↦ λ _ h. absurd (not_true h)
+    ] refl
 
 module _ {X : Type 0} where
   -- what the map's own `get` finds, in the words of `BTreeMap`
@@ -56,6 +66,14 @@ module _ {X : Type 0} where
       → from_entries fs ≡ remove m k
   removed_of es fs m k e is = same_map nat_cmp_total nat_cmp-IsAntisymmetric _ _ (λ q.
       sym (get_of fs _ refl q) ∙ is q ∙ turned k q _ _ ∙ ap (cond (eq_by_cmp nat_cmp q k) None) (get_of es m e q) ∙ sym (get-remove nat_cmp_total m k q))
+
+  -- the entries whose keys pass are those that the map retains
+  pub retained_of : (p : ℕ → Bool) (es fs : List (ℕ × X)) (m : FinMap nat_cmp X) → from_entries es ≡ m
+      → fs ≡ filter (λ e. p e.0) es → from_entries fs ≡ retain_keys m p
+  retained_of p es fs m e is = same_numbers _ _ (λ q.
+      sym (get_of fs _ refl q) ∙ ap (lookup (is_at (nat_cmp q))) is
+      ∙ lookup-filter-keys (is_at (nat_cmp q)) p (p q) (λ k at. ap p (key_at q k at)) es
+      ∙ ap (λ o. cond (p q) o None) (get_of es m e q) ∙ sym (get-retain m p q))
 
   -- an entry whose key is below all others goes to the front
   put_first : (e : ℕ × X) (es : List (ℕ × X)) → AllByRecursion (λ k. nat_cmp e.0 k ≡ Less) (keys_of es) → put nat_cmp e.0 e.1 es ≡ e ∷ es

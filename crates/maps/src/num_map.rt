@@ -157,6 +157,15 @@ impl<V> NumMap<V> {
         self.entries.pop_first()
     }
 
+    /// Takes out each entry but that at `key`.
+    pub fn keep_only(&mut self, key: u64)
+    where
+        V: Drop,
+        ensures { self.new ≡ map.retain_keys self.old (λ k. k == key) }
+    {
+        self.entries.retain(|other, _| *other == key);
+    }
+
     /// Takes out each entry.
     pub fn clear(&mut self)
     where
