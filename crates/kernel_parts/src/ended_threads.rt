@@ -1,12 +1,10 @@
-//! Threads that wait and end with their process, or since another program begins in it.
-ghost use Rattle.std.specs.Prelude.{◌≡◌, ◌≢◌, ◌==◌, ℕ, IfSome, IfNone, IsSome, None};
-ghost use Rattle.std.specs.FinMap as map;
+//! Threads that wait and end with their process.
+ghost use Rattle.std.specs.Prelude.{◌≡◌};
 
 use crate::numbers::next_number;
 use crate::process::ProcessState;
 use abi_types::{Pid, Thread, Tid};
 use channel_calls::{Channels, ThreadOf};
-use maps::NumMap;
 
 // Notes that a thread is to be looked at again, if it waits.
 fn wake_if_waiting(channels: &mut Channels, pid: Pid, number: u64, thread: Option<&Thread>)
@@ -36,34 +34,4 @@ pub fn wake_at_end(channels: &mut Channels, pid: Pid, own: &ProcessState)
 {
     wake_waiting(channels, pid, own);
     channels.wake_at_end(pid);
-}
-
-// A thread beside this one, if there is another.
-fn other_than(threads: &NumMap<Thread>, tid: u64) -> Option<u64>
-    ensures other { IfSome result (λ other. other ≢ tid) }
-    ensures there { IfSome result (λ other. IsSome (map.get threads.now other)) }
-    ensures none { IfNone result ((t : ℕ) → t ≢ tid → map.get threads.now t ≡ None) }
-{
-    let first = threads.first_from(0)?;
-    if first == tid {
-        threads.first_after(tid)
-    } else {
-        Some(first)
-    }
-}
-
-// Takes a thread away.
-fn take_away(threads: &mut NumMap<Thread>, tid: u64)
-    ensures { threads.new ≡ map.remove threads.old tid }
-{
-    threads.remove(tid);
-}
-
-// Takes each thread away but this one.
-pub(crate) fn keep_only(threads: &mut NumMap<Thread>, tid: u64)
-    ensures { threads.new ≡ map.retain_keys threads.old (λ t. t == tid) }
-{
-    while let Some(other) = other_than(threads, tid) {
-        take_away(threads, other);
-    }
 }

@@ -16,7 +16,6 @@ ghost use Rattle.kernel_model.specs.Start.{canary_words, first_process};
 ghost use Rattle.kernel_model.specs.Waits.{thread_set, waiting};
 
 use crate::activity::Activity;
-use crate::ended_threads::keep_only;
 use crate::numbers::next_number;
 use crate::start::{LAUNCH_PROCESS, single};
 use crate::waiting::deadline_at;
@@ -283,7 +282,7 @@ impl ProcessState {
         requires { can_draw canary_words self.old ≡ true }
         ensures { self.new ≡ begun_anew canary_words tid self.old }
     {
-        keep_only(&mut self.threads, u64::from(tid.0));
+        self.threads.keep_only(u64::from(tid.0));
         self.counts.words += CANARY_WORDS;
     }
 
