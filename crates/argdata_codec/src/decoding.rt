@@ -12,45 +12,39 @@ use lists::Stop;
 use std::alloc::{AllocError, Global};
 use thiserror::Error;
 
-/// Why bytes gave no value.
+/// The bytes encode no value.
 #[derive(Clone, Copy, Debug, Drop, PartialEq, Eq, Error)]
-pub enum ArgFault {
-    /// The bytes encode no value.
-    #[error("byte {at} can't go on")]
-    BadArgdata {
-        /// How long the longest beginning of the bytes is that begins some encoding.
-        at: usize,
-    },
-    /// There is no memory, or the bytes have a length of 2^112 or more, which no memory holds.
-    #[error("no memory")]
-    NoMemory,
+#[error("byte {at} can't go on")]
+pub struct ArgFault {
+    /// How long the longest beginning of the bytes is that begins some encoding.
+    pub at: usize,
 }
 
 // The greatest number of maps and sequences that stand inside each other.
 const DEPTH: usize = 64;
 
-/// The value that the bytes encode, all of the bytes.
-pub fn decode(alloc: Global, bytes: &[u8]) -> Result<Value, ArgFault>
+/// The value that the bytes encode, all of the bytes. Bytes with a length of 2^112 or more inside come to lack of memory,
+/// since no memory holds what they encode.
+pub fn decode(alloc: Global, bytes: &[u8]) -> Result<Value, Stop<ArgFault>>
     // What is decoded is encoded so.
     ensures found { IfOk result (λ value. IsArgdata (shape_of value) bytes.now) }
     // What is encoded so is decoded, unless memory runs out.
     ensures only { (x : Shape) → IsArgdata x bytes.now → Decodes x result }
     // Where the fault is, of all beginnings of the bytes.
-    ensures fault { IfErr result (λ fault. Names fault bytes.now) }
+    ensures fault { IfErr result (λ stop. Names stop bytes.now) }
 {
     match reading::value(alloc, DEPTH, bytes) {
         Ok(value) => Ok(value),
-        Err(Stop::Memory) => Err(ArgFault::NoMemory),
-        Err(Stop::At(Malformed)) => Err(fault(alloc, bytes)),
+        Err(Stop::Memory) => Err(Stop::Memory),
+        Err(Stop::At(Malformed)) => Err(Stop::At(fault(alloc, bytes)?)),
     }
 }
 
 // The place of the fault, if there is memory to find it.
-fn fault(alloc: Global, bytes: &[u8]) -> ArgFault
-    ensures { Names result bytes.now }
+fn fault(alloc: Global, bytes: &[u8]) -> Result<ArgFault, AllocError>
+    ensures { IfOk result (λ fault. IsLongest bytes.now fault.at) }
 {
-    match place::value(alloc, DEPTH, None, bytes) {
-        Ok(at) => ArgFault::BadArgdata { at },
-        Err(AllocError) => ArgFault::NoMemory,
-    }
+    Ok(ArgFault {
+        at: place::value(alloc, DEPTH, None, bytes)?,
+    })
 }

@@ -27,6 +27,7 @@ use Rattle.run_types.specs.declared.history.Act.{Act}
 use Rattle.run_types.specs.declared.history.Act.TheVariants as act
 use Rattle.run_types.specs.declared.history.Entry.{Entry}
 use Rattle.run_types.specs.declared.launch.Launch.{Launch}
+use Rattle.kernel_model.specs.ChannelLaws.{IsPut}
 use Rattle.kernel_model.specs.Channels.{Channel, Send, pushed, room}
 use Rattle.kernel_model.specs.Families.ChannelCalls as channel_calls
 use Rattle.kernel_model.specs.Families.OpenMeaning.{at_descriptor}
@@ -50,7 +51,7 @@ use Rattle.run_model.specs.Legal.{FitsAct, Legal}
 use Rattle.run_model.specs.World.{World, acted, guest_of, turned, who_of, woken_state, world}
 use Rattle.run_model.proofs.Histories.{apply_is, legal_front, legal_next, world_more}
 use Rattle.run_model.proofs.Worlds.{world_is_valid}
-use Rattle.authority_laws.specs.Deliveries.{IsPut, PutsInto, SendsTo}
+use Rattle.authority_laws.specs.Deliveries.{PutsInto, SendsTo}
 use Rattle.authority_laws.specs.Laws.{SendsAreNoted}
 use Rattle.authority_laws.specs.Ledger.{After, Ledger, Row, Sends, after_of, answered_row, answered_sends, by_success, channel_of, granted_sends, picked, sends_in, with_sent, written_by}
 use Rattle.authority_laws.specs.Recorded.{Replies, Succeeds, acted_sends, after_at, held_after, held_before, ledger}
@@ -191,13 +192,7 @@ module _ (launch : Launch) (front : List Entry) (e : Entry) (begins : MayBegin l
         put = put;
         reply = reply;
         succeeds = done;
-        some = some;
-        x = x;
-        socket = held;
-        reads = wrote.0;
-        mode = wrote.1;
-        form = wrote.2;
-        opened = wrote.3;
+        into = record { some = some; d = x; socket = held; reads = wrote.0; mode = wrote.1; form = wrote.2; opened = wrote.3 };
       }
 
   -- ---- earlier sends
@@ -302,23 +297,17 @@ module _ (launch : Launch) (front : List Entry) (e : Entry) (begins : MayBegin l
       put = inr (s.fds, s.flags, refl);
       reply = s.reply;
       succeeds = s.succeeds;
-      some = s.some;
-      x = s.x;
-      socket = s.socket;
-      reads = s.reads;
-      mode = s.mode;
-      form = s.form;
-      opened = s.opened;
+      into = s.into;
     }
 
     -- its open is there after the entry, and writes the channel
     writes_still : channel_of shown (row s.fd) ≡ Some c
     writes_still =
-        let held : held_after launch front e s.fd ≡ Some s.x = (λ i. send_same s.fd s.bytes s.fds s.flags s.reply s.succeeds i s.fd) ∙ s.socket in
-        let now = held_open launch begins (front ++ e ∷ []) e.pid s.fd s.x legal held in
-        ap (channel_of shown) s.socket ∙ ap written_by now.1
-        ∙ same_writes s.reads c s.mode now.0
-        (opens_stay launch front e [] begins legal s.x.id (End s.reads (Some c) s.mode form) now.0 s.opened now.1)
+        let held : held_after launch front e s.fd ≡ Some s.into.d = (λ i. send_same s.fd s.bytes s.fds s.flags s.reply s.succeeds i s.fd) ∙ s.into.socket in
+        let now = held_open launch begins (front ++ e ∷ []) e.pid s.fd s.into.d legal held in
+        ap (channel_of shown) s.into.socket ∙ ap written_by now.1
+        ∙ same_writes s.into.reads c s.into.mode s.into.form now.0
+        (opens_stay launch front e [] begins legal s.into.d.id (End s.into.reads (Some c) s.into.mode s.into.form) now.0 s.into.opened now.1)
 
     done_sends : acted_sends shown row sent e.act ≡ granted_sends shown row sent sending
     done_sends = acts ∙ ap (λ errno. by_success errno (granted_sends shown row sent sending) sent) s.succeeds.success where
@@ -335,7 +324,7 @@ module _ (launch : Launch) (front : List Entry) (e : Entry) (begins : MayBegin l
 
     new_send : (j : ℕ) → j ≡ shown.sends c → then c j ≡ carried
     new_send j last =
-        ap (λ (f : Sends). f c j) (then_is ∙ done_sends ∙ some_sends s.fd s.bytes s.fds s.flags s.some)
+        ap (λ (f : Sends). f c j) (then_is ∙ done_sends ∙ some_sends s.fd s.bytes s.fds s.flags s.into.some)
         ∙ ap (λ o. with_sent shown o (picked row s.fds) sent c j) writes_still
         ∙ (λ i. cond (eq-eqb c c refl i && eq-eqb j (shown.sends c) last i) (picked row s.fds) (sent c j)) ∙ sym s.listed
 

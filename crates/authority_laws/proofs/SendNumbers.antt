@@ -1,16 +1,13 @@
 -- The numbers of a channel's sends count the entries that put something into it.
 --     sends_are_numbered      the law
-use Rattle.std.proofs.Common.{◌≡◌, ◌⊎◌, inl, inr, ℕ, suc, ◌<◌, List, ◌∷◌, ◌++◌, length, Option, None, Some, refl, sym, ap, subst, ◌∙◌}
+use Rattle.std.proofs.Common.{◌≡◌, ◌⊎◌, inl, inr, ℕ, suc, List, ◌∷◌, ◌++◌, None, Some, refl, sym, ap, subst, ◌∙◌}
 use Rattle.std.specs.FinMap.{get}
 use Rattle.abi_base.specs.declared.errno.Errno.TheVariants.{Fault, Success}
 use Rattle.abi_base.specs.declared.signal.Signal.TheVariants.{Xcpu}
 use Rattle.tree_model.specs.Grants.{MayBegin}
-use Rattle.abi_types.specs.declared.chan_kind.ChanKind.{ChanKind}
 use Rattle.abi_types.specs.declared.call.Call.{Call}
 use Rattle.abi_types.specs.declared.call.Call.TheVariants.{FdWrite, SockSend}
 use Rattle.abi_types.specs.declared.constants.Constants.{Constants}
-use Rattle.abi_types.specs.declared.descriptor.Descriptor.{Descriptor}
-use Rattle.abi_types.specs.declared.open_kind.OpenKind.TheVariants.{End}
 use Rattle.abi_types.specs.declared.reply.Answer.{Answer}
 use Rattle.abi_types.specs.declared.reply.Answer.TheVariants as answer
 use Rattle.abi_types.specs.declared.reply.Reply.{Reply}
@@ -23,6 +20,7 @@ use Rattle.run_types.specs.declared.history.Act.TheVariants as act
 use Rattle.run_types.specs.declared.history.Entry.{Entry}
 use Rattle.run_types.specs.declared.launch.Launch.{Launch}
 use Rattle.kernel_model.specs.ChannelLaws as kernel
+use Rattle.kernel_model.specs.ChannelLaws.{GoesInto, IsPut}
 use Rattle.kernel_model.specs.Channels.{Channel}
 use Rattle.kernel_model.specs.Families.Locks.{with_word}
 use Rattle.kernel_model.specs.Proper.{sends_had}
@@ -40,17 +38,14 @@ use Rattle.run_model.specs.World.{World, Guest, guest_of, called_state, woken_st
 use Rattle.run_model.proofs.Histories.{apply_is, legal_front, legal_next, world_more}
 use Rattle.run_model.proofs.Words.{word_kept}
 use Rattle.run_model.proofs.Worlds.{world_is_valid}
-use Rattle.authority_laws.specs.Deliveries.{BeginsCount, CountsMore, IsPut, PutsInto}
+use Rattle.authority_laws.specs.Deliveries.{BeginsCount, CountsMore, PutsInto}
 use Rattle.authority_laws.specs.Laws.{SendsAreNumbered}
-use Rattle.authority_laws.specs.Recorded.{held_before}
+use Rattle.authority_laws.specs.Recorded.{Answers, held_before}
 use Rattle.authority_laws.proofs.Histories.{ledger_reports}
+use Rattle.authority_laws.proofs.Sends.{goes_held}
 use Rattle.authority_laws.proofs.Successes.{no_success}
 
 -- ---- acts
-
--- the act is this call, which has this reply, or the wake of a thread that waited in it
-abbrev Answers : Act → Call → Reply → Type 0
-Answers a call reply = (a ≡ act.Call call (answer.Reply reply)) ⊎ ((given : WakeIn) × (a ≡ act.Wake call given (answer.Reply reply)))
 
 -- the act put a byte at least into channel c
 record ActPuts (S : State) (who : Who) (a : Act) (c : ℕ) : Type 0 where
@@ -61,15 +56,9 @@ record ActPuts (S : State) (who : Who) (a : Act) (c : ℕ) : Type 0 where
   reply : Reply
   is : Answers a call reply
   success : reply.errno ≡ Success
-  some : 0 < length bytes
   table : Table
   own : get S.tables who.pid ≡ Some table
-  d : Descriptor
-  socket : get table fd ≡ Some d
-  reads : Option ℕ
-  mode : ℕ
-  form : ChanKind
-  opened : get S.opens d.id ≡ Some (End reads (Some c) mode form)
+  into : GoesInto (get table) S.opens fd bytes c
 
 -- what is shown of an act
 abbrev ActCounts : State → State → Who → Act → ℕ → Channel → Channel → Type 0
@@ -87,15 +76,9 @@ act_of S who call given a c answers puts = record {
   reply = puts.reply;
   is = answers puts.reply puts.replied;
   success = puts.success;
-  some = puts.some;
   table = puts.table;
   own = puts.own;
-  d = puts.d;
-  socket = puts.socket;
-  reads = puts.reads;
-  mode = puts.mode;
-  form = puts.form;
-  opened = puts.opened;
+  into = puts.into;
 }
 
 call_of : (S : State) (who : Who) (call : Call) (given : Answer) (a : Act) (c : ℕ) (puts : ActPuts S who a c) → puts.call ≡ call
@@ -104,18 +87,12 @@ call_of S who call given a c puts same replied = record {
   fd = puts.fd;
   bytes = puts.bytes;
   is = subst (λ x. IsPut x puts.fd puts.bytes) same puts.put;
-  some = puts.some;
   reply = puts.reply;
   replied = replied;
   success = puts.success;
   table = puts.table;
   own = puts.own;
-  d = puts.d;
-  socket = puts.socket;
-  reads = puts.reads;
-  mode = puts.mode;
-  form = puts.form;
-  opened = puts.opened;
+  into = puts.into;
 }
 
 -- the call and the answer that an act shows, where it has them
@@ -161,18 +138,12 @@ puts_by_word S who word call given c puts = record {
     | inl writes ↦ inl (word_kept word call (FdWrite puts.fd puts.bytes) refl writes)
     | inr sends ↦ inr (sends.0, sends.1, word_kept word call (SockSend puts.fd puts.bytes sends.0 sends.1) refl sends.2)
   ];
-  some = puts.some;
   reply = puts.reply;
   replied = puts.replied;
   success = puts.success;
   table = puts.table;
   own = puts.own;
-  d = puts.d;
-  socket = puts.socket;
-  reads = puts.reads;
-  mode = puts.mode;
-  form = puts.form;
-  opened = puts.opened;
+  into = puts.into;
 }
 
 puts_with_word : (S : State) (who : Who) (word : ℕ) (call : Call) (given : Answer) (c : ℕ) → kernel.PutsInto S who call given c
@@ -184,18 +155,12 @@ puts_with_word S who word call given c puts = record {
     | inl writes ↦ inl (ap (with_word word) writes)
     | inr sends ↦ inr (sends.0, sends.1, ap (with_word word) sends.2)
   ];
-  some = puts.some;
   reply = puts.reply;
   replied = puts.replied;
   success = puts.success;
   table = puts.table;
   own = puts.own;
-  d = puts.d;
-  socket = puts.socket;
-  reads = puts.reads;
-  mode = puts.mode;
-  form = puts.form;
-  opened = puts.opened;
+  into = puts.into;
 }
 
 wake_counts : (constants : Constants) (S : State) (who : Who) (call : Call) (given : WakeIn) (answered : Answer) (T : State) (c : ℕ) (was now : Channel)
@@ -225,15 +190,9 @@ wake_counts constants S who call (wake.Plain word) answered T c was now valid is
         reply = p.reply;
         is = p.is;
         success = p.success;
-        some = p.some;
         table = p.table;
         own = p.own;
-        d = p.d;
-        socket = p.socket;
-        reads = p.reads;
-        mode = p.mode;
-        form = p.form;
-        opened = p.opened;
+        into = p.into;
       }
 
       as_resumed : ActPuts S who (act.Wake call (wake.Plain word) answered) c → ActPuts (resumed S who) who (act.Wake call (wake.Plain word) answered) c
@@ -245,15 +204,9 @@ wake_counts constants S who call (wake.Plain word) answered T c was now valid is
         reply = p.reply;
         is = p.is;
         success = p.success;
-        some = p.some;
         table = p.table;
         own = p.own;
-        d = p.d;
-        socket = p.socket;
-        reads = p.reads;
-        mode = p.mode;
-        form = p.form;
-        opened = p.opened;
+        into = p.into;
       }
 wake_counts constants S who call wake.Fault answered T c was now valid is before after = inr (
   λ puts. no_success puts.reply Fault (sym (shown_answer answered (act.Wake call wake.Fault answered) puts.call puts.reply refl puts.is) ∙ is.0)
@@ -328,18 +281,12 @@ module _ (launch : Launch) (front : List Entry) (e : Entry) (rest : List Entry) 
     put = puts.put;
     reply = puts.reply;
     succeeds = record { is = puts.is; success = puts.success };
-    some = puts.some;
-    x = puts.d;
-    socket = sym (row_is puts.table puts.own puts.fd) ∙ puts.socket;
-    reads = puts.reads;
-    mode = puts.mode;
-    form = puts.form;
-    opened = puts.opened;
+    into = goes_held (get puts.table) (held_before launch front e) S.opens puts.fd puts.bytes c (row_is puts.table puts.own puts.fd) puts.into;
   }
 
   act_puts : PutsInto launch front e c → ActPuts S who e.act c
   act_puts puts =
-      let holds = (ledger_reports launch front begins (legal_front launch front (e ∷ rest) legal)).held e.pid puts.fd puts.x puts.socket in
+      let holds = (ledger_reports launch front begins (legal_front launch front (e ∷ rest) legal)).held e.pid puts.fd puts.into.d puts.into.socket in
       record {
         call = puts.call;
         fd = puts.fd;
@@ -348,15 +295,9 @@ module _ (launch : Launch) (front : List Entry) (e : Entry) (rest : List Entry) 
         reply = puts.reply;
         is = puts.succeeds.is;
         success = puts.succeeds.success;
-        some = puts.some;
         table = holds.1;
         own = holds.2;
-        d = puts.x;
-        socket = holds.3;
-        reads = puts.reads;
-        mode = puts.mode;
-        form = puts.form;
-        opened = puts.opened;
+        into = goes_held (held_before launch front e) (get holds.1) S.opens puts.fd puts.bytes c (puts.into.socket ∙ sym holds.3) puts.into;
       }
 
 -- ---- channels that come

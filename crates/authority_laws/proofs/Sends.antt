@@ -2,22 +2,20 @@
 --     AllListed      so it is after these entries
 --     all_listed      so it is after each legal history
 --     send_at      what holds of each of some sends holds of one of them
-use Rattle.std.proofs.Common.{◌≡◌, ◌⊎◌, inl, inr, ℕ, zero, suc, ◌+◌, ◌-◌, ◌<◌, Bool, cond, List, [], ◌∷◌, ◌++◌, length, drop, Option, None, Some, refl, sym, ap, subst, ◌∙◌, arith}
+use Rattle.std.proofs.Common.{◌≡◌, ◌⊎◌, inl, inr, ℕ, zero, suc, ◌+◌, ◌-◌, Bool, cond, List, [], ◌∷◌, ◌++◌, length, drop, Option, None, Some, refl, sym, ap, subst, ◌∙◌, arith}
 use Rattle.std.proofs.lemmas.List.{append-nil, append_assoc}
 use Rattle.std.specs.Prelude.{slice_get}
 use Rattle.std.specs.Ordering.{nat_cmp}
-use Rattle.std.specs.FinMap.{get, get-empty}
+use Rattle.std.specs.FinMap.{FinMap, get, get-empty}
 use Rattle.abi_base.specs.declared.errno.Errno.TheVariants.{Success}
 use Rattle.abi_base.specs.declared.signal.Signal.TheVariants.{Xcpu}
 use Rattle.tree_model.specs.Grants.{MayBegin}
-use Rattle.abi_types.specs.declared.chan_kind.ChanKind.{ChanKind}
 use Rattle.abi_types.specs.declared.call.Call.{Call}
 use Rattle.abi_types.specs.declared.call.Call.TheVariants.{SockSend}
 use Rattle.abi_types.specs.declared.constants.Constants.{Constants}
 use Rattle.abi_types.specs.declared.descriptor.Descriptor.{Descriptor}
-use Rattle.abi_types.specs.declared.open_kind.OpenKind.TheVariants.{End}
+use Rattle.abi_types.specs.declared.open_kind.OpenKind.{OpenKind}
 use Rattle.abi_types.specs.declared.reply.Answer.{Answer}
-use Rattle.abi_types.specs.declared.reply.Answer.TheVariants as answer
 use Rattle.abi_types.specs.declared.reply.Reply.{Reply}
 use Rattle.abi_types.specs.declared.status.Status.TheVariants.{Killed}
 use Rattle.abi_types.specs.declared.wake.WakeIn.{WakeIn}
@@ -27,7 +25,7 @@ use Rattle.run_types.specs.declared.history.Act.{Act}
 use Rattle.run_types.specs.declared.history.Act.TheVariants as act
 use Rattle.run_types.specs.declared.history.Entry.{Entry}
 use Rattle.run_types.specs.declared.launch.Launch.{Launch}
-use Rattle.kernel_model.specs.ChannelLaws.{SendsOn}
+use Rattle.kernel_model.specs.ChannelLaws.{GoesInto, IsSendInto, SendsOn}
 use Rattle.kernel_model.specs.Channels.{Channel, Send, sends_after, sends_gone}
 use Rattle.kernel_model.specs.Families.ChannelCalls as channel_calls
 use Rattle.kernel_model.specs.Proper.{GoesOn, adds, draws, empties}
@@ -48,7 +46,7 @@ use Rattle.run_model.proofs.Words.{word_kept}
 use Rattle.run_model.proofs.Worlds.{world_is_valid}
 use Rattle.authority_laws.specs.Deliveries.{IsSend, SendsTo}
 use Rattle.authority_laws.specs.Ledger.{Row, added, picked}
-use Rattle.authority_laws.specs.Recorded.{held_before}
+use Rattle.authority_laws.specs.Recorded.{Answers, held_before}
 use Rattle.authority_laws.proofs.Histories.{ledger_reports, up_to}
 use Rattle.authority_laws.proofs.Waiting.{world_begins}
 
@@ -116,24 +114,11 @@ send_at P j (suc k) (first ∷ sends) send all at =
 
 -- the act is a sock_send of a byte at least to channel c, which succeeded, and lists this
 pub record SentNow (S : State) (who : Who) (a : Act) (c : ℕ) (carried : List Descriptor) : Type 0 where
-  fd : ℕ
-  bytes : List ℕ
-  fds : List ℕ
-  flags : ℕ
+  call : Call
+  send : IsSendInto S who call c carried
   reply : Reply
-  is : (a ≡ act.Call (SockSend fd bytes fds flags) (answer.Reply reply))
-      ⊎ ((given : WakeIn) × (a ≡ act.Wake (SockSend fd bytes fds flags) given (answer.Reply reply)))
+  is : Answers a call reply
   success : reply.errno ≡ Success
-  some : 0 < length bytes
-  table : Table
-  own : get S.tables who.pid ≡ Some table
-  d : Descriptor
-  socket : get table fd ≡ Some d
-  reads : Option ℕ
-  mode : ℕ
-  form : ChanKind
-  opened : get S.opens d.id ≡ Some (End reads (Some c) mode form)
-  listed : carried ≡ channel_calls.picked table fds
 
 -- how a channel goes on by an act
 abbrev pub GoesBy : State → State → Who → Act → ℕ → Type 0
@@ -142,49 +127,32 @@ GoesBy S T who a c = (now : Channel) → get T.chans c ≡ Some now → GoesOn (
 by_call : (S : State) (who : Who) (call : Call) (given : Answer) (c : ℕ) (carried : List Descriptor)
     → (carried ≡ []) ⊎ SendsOn S who call given c carried → (carried ≡ []) ⊎ SentNow S who (act.Call call given) c carried
 by_call S who call given c carried (inl bare) = inl bare
-by_call S who call given c carried (inr sent) = inr (record {
-  fd = sent.fd;
-  bytes = sent.bytes;
-  fds = sent.fds;
-  flags = sent.flags;
-  reply = sent.reply;
-  is = inl (λ i. act.Call (sent.is i) (sent.replied i));
-  success = sent.success;
-  some = sent.some;
-  table = sent.table;
-  own = sent.own;
-  d = sent.d;
-  socket = sent.socket;
-  reads = sent.reads;
-  mode = sent.mode;
-  form = sent.form;
-  opened = sent.opened;
-  listed = sent.listed;
-})
+by_call S who call given c carried (inr sent) =
+    inr (record { call = call; send = sent.send; reply = sent.reply; is = inl (λ i. act.Call call (sent.replied i)); success = sent.success })
 
 by_wake : (S : State) (who : Who) (call : Call) (word : ℕ) (answered : Answer) (c : ℕ) (carried : List Descriptor)
     → (carried ≡ []) ⊎ SendsOn (resumed S who) who (with_word word call) answered c carried
     → (carried ≡ []) ⊎ SentNow S who (act.Wake call (wake.Plain word) answered) c carried
 by_wake S who call word answered c carried (inl bare) = inl bare
-by_wake S who call word answered c carried (inr sent) = inr (record {
-  fd = sent.fd;
-  bytes = sent.bytes;
-  fds = sent.fds;
-  flags = sent.flags;
-  reply = sent.reply;
-  is = inr (wake.Plain word, λ i. act.Wake (word_kept word call (SockSend sent.fd sent.bytes sent.fds sent.flags) refl sent.is i) (wake.Plain word) (sent.replied i));
-  success = sent.success;
-  some = sent.some;
-  table = sent.table;
-  own = sent.own;
-  d = sent.d;
-  socket = sent.socket;
-  reads = sent.reads;
-  mode = sent.mode;
-  form = sent.form;
-  opened = sent.opened;
-  listed = sent.listed;
-})
+by_wake S who call word answered c carried (inr sent) =
+    let send = sent.send in
+    inr (record {
+      call = call;
+      send = record {
+        fd = send.fd;
+        bytes = send.bytes;
+        fds = send.fds;
+        flags = send.flags;
+        is = word_kept word call (SockSend send.fd send.bytes send.fds send.flags) refl send.is;
+        table = send.table;
+        own = send.own;
+        into = send.into;
+        listed = send.listed;
+      };
+      reply = sent.reply;
+      is = inr (wake.Plain word, λ i. act.Wake call (wake.Plain word) (sent.replied i));
+      success = sent.success;
+    })
 
 call_goes : (constants : Constants) (S : State) (who : Who) (call : Call) (given : Answer) (T : State) (c : ℕ) → IsValid S
     → IsStep constants S who call given T → GoesBy S T who (act.Call call given) c
@@ -247,6 +215,19 @@ picked_same table row same [] = refl
 picked_same table row same (fd ∷ fds) =
     added_same (get table fd) (channel_calls.picked table fds) ∙ (λ i. added (same fd i) (picked_same table row same fds i))
 
+-- what goes into a channel goes there by the same descriptor of what else is held
+pub goes_held : (held row : Row) (opens : FinMap nat_cmp OpenKind) (fd : ℕ) (bytes : List ℕ) (c : ℕ) → held fd ≡ row fd → GoesInto held opens fd bytes c
+    → GoesInto row opens fd bytes c
+goes_held held row opens fd bytes c same into = record {
+  some = into.some;
+  d = into.d;
+  socket = sym same ∙ into.socket;
+  reads = into.reads;
+  mode = into.mode;
+  form = into.form;
+  opened = into.opened;
+}
+
 -- each send that waits in a channel after these entries carries nothing, or what one of them listed
 abbrev pub AllListed : Launch → List Entry → Type 0
 AllListed launch history =
@@ -275,22 +256,17 @@ module _ (launch : Launch) (front : List Entry) (e : Entry) (begins : MayBegin l
       → SendsTo launch front e c carried
   sent_now c carried sent =
       let reports = ledger_reports launch front begins (legal_front launch front (e ∷ []) legal) in
-      let same : (n : ℕ) → get sent.table n ≡ held_before launch front e n = reports.tables e.pid sent.table sent.own in
+      let send = sent.send in
+      let same : (n : ℕ) → get send.table n ≡ held_before launch front e n = reports.tables e.pid send.table send.own in
       record {
-        fd = sent.fd;
-        bytes = sent.bytes;
-        fds = sent.fds;
-        flags = sent.flags;
+        fd = send.fd;
+        bytes = send.bytes;
+        fds = send.fds;
+        flags = send.flags;
         reply = sent.reply;
-        succeeds = record { is = sent.is; success = sent.success };
-        some = sent.some;
-        x = sent.d;
-        socket = sym (same sent.fd) ∙ sent.socket;
-        reads = sent.reads;
-        mode = sent.mode;
-        form = sent.form;
-        opened = sent.opened;
-        listed = sent.listed ∙ picked_same sent.table (held_before launch front e) same sent.fds;
+        succeeds = record { is = subst (λ call. Answers e.act call sent.reply) send.is sent.is; success = sent.success };
+        into = goes_held (get send.table) (held_before launch front e) (world launch front).state.opens send.fd send.bytes c (same send.fd) send.into;
+        listed = send.listed ∙ picked_same send.table (held_before launch front e) same send.fds;
       }
 
   -- what this one put there

@@ -1,15 +1,16 @@
 -- Which entry sent the descriptors that a receive installs.
-use Rattle.std.specs.Prelude.{◌≡◌, ◌⊎◌, ◌+◌, ◌<◌, ℕ, suc, List, [], ◌∷◌, ◌++◌, length, Option, None, Some, slice_get}
+use Rattle.std.specs.Prelude.{◌≡◌, ◌⊎◌, ◌+◌, ℕ, suc, List, [], ◌∷◌, ◌++◌, length, Option, None, Some, slice_get}
 use Rattle.std.specs.FinMap.{get}
 use Rattle.abi_types.specs.declared.chan_kind.ChanKind.{ChanKind}
 use Rattle.abi_types.specs.declared.call.Call.{Call}
-use Rattle.abi_types.specs.declared.call.Call.TheVariants.{FdWrite, SockRecv, SockSend}
+use Rattle.abi_types.specs.declared.call.Call.TheVariants.{SockRecv, SockSend}
 use Rattle.abi_types.specs.declared.descriptor.Descriptor.{Descriptor}
 use Rattle.abi_types.specs.declared.open_kind.OpenKind.TheVariants.{End}
 use Rattle.abi_types.specs.declared.reply.Reply.{Reply}
 use Rattle.abi_types.specs.declared.status.Status.TheVariants.{Live}
 use Rattle.run_types.specs.declared.history.Entry.{Entry}
 use Rattle.run_types.specs.declared.launch.Launch.{Launch}
+use Rattle.kernel_model.specs.ChannelLaws.{GoesInto, IsPut}
 use Rattle.kernel_model.specs.Channels.{Channel, Send}
 use Rattle.run_model.specs.World.{world}
 use Rattle.authority_laws.specs.Ledger.{installed_fds, picked}
@@ -24,13 +25,7 @@ pub record SendsTo (launch : Launch) (early : List Entry) (sender : Entry) (c : 
   pub flags : ℕ
   pub reply : Reply
   pub succeeds : Succeeds sender (SockSend fd bytes fds flags) reply
-  pub some : 0 < length bytes
-  pub x : Descriptor
-  pub socket : held_before launch early sender fd ≡ Some x
-  pub reads : Option ℕ
-  pub mode : ℕ
-  pub form : ChanKind
-  pub opened : get (world launch early).state.opens x.id ≡ Some (End reads (Some c) mode form)
+  pub into : GoesInto (held_before launch early sender) (world launch early).state.opens fd bytes c
   pub listed : carried ≡ picked (held_before launch early sender) fds
 
 -- One of these entries put into channel c the send that is number j there, the first being 1: so many less one had left the channel before it,
@@ -72,10 +67,6 @@ DeliversAt launch front e =
 
 -- ---- the numbers of sends
 
--- The call sends these bytes by the descriptor under fd: it is an fd_write or a sock_send.
-abbrev pub IsPut : Call → ℕ → List ℕ → Type 0
-IsPut call fd bytes = (call ≡ FdWrite fd bytes) ⊎ ((fds : List ℕ) × (flags : ℕ) × (call ≡ SockSend fd bytes fds flags))
-
 -- The entry behind these is an fd_write or a sock_send of a byte at least that succeeded, and by what its process held before it the
 -- descriptor's open writes channel c.
 pub record PutsInto (launch : Launch) (front : List Entry) (e : Entry) (c : ℕ) : Type 0 where
@@ -85,13 +76,7 @@ pub record PutsInto (launch : Launch) (front : List Entry) (e : Entry) (c : ℕ)
   pub put : IsPut call fd bytes
   pub reply : Reply
   pub succeeds : Succeeds e call reply
-  pub some : 0 < length bytes
-  pub x : Descriptor
-  pub socket : held_before launch front e fd ≡ Some x
-  pub reads : Option ℕ
-  pub mode : ℕ
-  pub form : ChanKind
-  pub opened : get (world launch front).state.opens x.id ≡ Some (End reads (Some c) mode form)
+  pub into : GoesInto (held_before launch front e) (world launch front).state.opens fd bytes c
 
 -- The sends of a channel that is there before and after an entry are one more after it where it put one into the channel, and else as many.
 abbrev pub CountsMore : Launch → List Entry → Entry → Type 0

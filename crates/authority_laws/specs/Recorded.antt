@@ -73,10 +73,12 @@ held_before launch front e = (ledger launch front).held e.pid
 abbrev pub held_after : Launch → List Entry → Entry → Row
 held_after launch front e = (ledger launch (front ++ e ∷ [])).held e.pid
 
--- the entry is this call, which has this reply, or the wake of a thread that waited in it
+-- the act is this call, which has this reply, or the wake of a thread that waited in it
+abbrev pub Answers : Act → Call → Reply → Type 0
+Answers a call reply = (a ≡ act.Call call (answer.Reply reply)) ⊎ ((given : WakeIn) × (a ≡ act.Wake call given (answer.Reply reply)))
+
 abbrev pub Replies : Entry → Call → Reply → Type 0
-Replies e call reply =
-    (e.act ≡ act.Call call (answer.Reply reply)) ⊎ ((given : WakeIn) × (e.act ≡ act.Wake call given (answer.Reply reply)))
+Replies e call reply = Answers e.act call reply
 
 -- the entry is this call, at once or after its thread waited in it, which succeeded with this reply
 pub record Succeeds (e : Entry) (call : Call) (reply : Reply) : Type 0 where

@@ -1,10 +1,10 @@
 //! What a thread that waited in a call is given when it goes on.
 ghost use Rattle.std.specs.Prelude.{◌≡◌, ◌*◌};
 ghost use Rattle.codec_arguments.specs.Bytes.{writable};
-ghost use Rattle.call_codec.specs.Given.{awaited_word, first_lock, given_of, has_message, has_places, has_room, lock_awaited, lock_of};
+ghost use Rattle.call_codec.specs.Given.{awaited_word, given_of, has_message, has_places, has_room, lock_awaited};
 
 use crate::messages::iovecs_in;
-use abi_types::{Call, Errno, Regs, Subscription, WakeIn, What};
+use abi_types::{Call, Errno, Regs, WakeIn, What};
 use codec_arguments::{check_writable, read_recv_in, read_room, read_word, refuse_when};
 use codec_calls::MOST_SENT_DESCRIPTORS;
 use codec_poll::EVENT_SIZE;
@@ -82,34 +82,18 @@ fn check_events(memory: &GuestMemory, at: u64, count: u64) -> Result<(), Errno>
     }
 }
 
-// The address of the lock that a call waits for.
+// The address of the lock that a call waits for; for a condition variable that of the lock that is taken afterwards.
 fn lock_awaited(call: &Call) -> Option<u64>
     ensures { result ≡ lock_awaited call.now }
 {
-    match call {
-        Call::Poll { subscriptions } => first_lock(subscriptions.as_slice()),
-        _ => None,
-    }
-}
-
-// That of the first subscription.
-fn first_lock(subscriptions: &[Subscription]) -> Option<u64>
-    ensures { result ≡ first_lock subscriptions.now }
-{
-    match subscriptions.first() {
-        Some(first) => lock_of(&first.what),
-        None => None,
-    }
-}
-
-// The address of the lock that is waited for; for a condition variable that of the lock that is taken afterwards.
-fn lock_of(what: &What) -> Option<u64>
-    ensures { result ≡ lock_of what.now }
-{
-    match what {
+    let Call::Poll { subscriptions } = call else {
+        return None;
+    };
+    let first = subscriptions.as_slice().first()?;
+    match first.what {
         What::Condvar { lock, .. }
         | What::LockRdlock { lock, .. }
-        | What::LockWrlock { lock, .. } => Some(*lock),
+        | What::LockWrlock { lock, .. } => Some(lock),
         _ => None,
     }
 }

@@ -19,11 +19,10 @@ ghost use Rattle.maps.specs.Maps.{number};
 use crate::installing::install;
 use crate::kept::Channels;
 use crate::letting_go::{MOST_CARRIED, NOTHING, check, let_go_all};
+use crate::sending::is_nonblocking;
 use abi_base::MOST_DESCRIPTORS;
-use abi_types::flags::{
-    FDFLAG_NONBLOCK, SOCK_RECV_FDS_TRUNCATED, SOCK_RECV_PEEK, SOCK_RECV_WAITALL,
-};
-use abi_types::{Answer, ChanKind, Bytes, Errno, FdList, ObjId, OpenKind, Payload, WordWrites};
+use abi_types::flags::{SOCK_RECV_FDS_TRUNCATED, SOCK_RECV_PEEK, SOCK_RECV_WAITALL};
+use abi_types::{Answer, Bytes, ChanKind, Errno, FdList, ObjId, OpenKind, Payload, WordWrites};
 use channels::Channel;
 use fd_table::FdTable;
 use object_store::Objects;
@@ -34,7 +33,7 @@ use std::alloc::{AllocError, Global};
 pub(crate) fn waits_unless(flags: u16) -> Answer
     ensures { result ≡ (waits_unless (is_nonblocking flags)).answer }
 {
-    if flags & FDFLAG_NONBLOCK != 0 {
+    if is_nonblocking(flags) {
         Answer::Reply(refused(Errno::Again))
     } else {
         Answer::Parked(WordWrites::Zero)
@@ -137,12 +136,12 @@ pub(crate) struct Asked {
     pub(crate) flags: u16,
 }
 
-/// Whether a receive can't go on.
-pub(crate) fn must_wait(channel: &Channel, asked: &Asked) -> bool
-    ensures { result ≡ must_wait_by asked.now.flags asked.now.length channel.now }
+/// Whether a receive with these flags can't go on, which asks for so many bytes. A read is one without flags.
+pub(crate) fn must_wait(channel: &Channel, length: u64, flags: u16) -> bool
+    ensures { result ≡ must_wait_by flags length channel.now }
 {
-    let length = asked.length as usize;
-    let all = asked.flags & SOCK_RECV_WAITALL != 0;
+    let length = length as usize;
+    let all = flags & SOCK_RECV_WAITALL != 0;
     channel.must_wait(length) || (all && channel.must_wait_for_all(length))
 }
 
@@ -229,7 +228,7 @@ pub(crate) fn receive(
     let Some(channel) = channels.get(socket.reads) else {
         return Ok(Answer::Reply(refused(Errno::Badf)));
     };
-    if must_wait(channel, asked) {
+    if must_wait(channel, asked.length, asked.flags) {
         return Ok(waits_unless(socket.flags));
     }
     if asked.flags & SOCK_RECV_PEEK != 0 {

@@ -9,8 +9,8 @@ ghost use Rattle.channel_calls.specs.Waits.{is_read_waiting};
 ghost use Rattle.kernel_model.specs.Outcome.{is_parked};
 
 use crate::kept::Channels;
+use crate::receiving::must_wait;
 use crate::sending::{Outgoing, Sending, is_nonblocking, ready};
-use abi_types::flags::SOCK_RECV_WAITALL;
 use abi_types::{Call, ObjId, OffsetCall, OpenKind, SocketCall};
 use fd_table::FdTable;
 
@@ -28,7 +28,7 @@ pub fn end_waits(channels: &Channels, kind: &OpenKind, call: OffsetCall<'_>) -> 
         return false;
     };
     match call {
-        OffsetCall::FdRead { length, .. } => receive_waits(channels, *reads, *flags, length, false),
+        OffsetCall::FdRead { length, .. } => receive_waits(channels, *reads, *flags, length, 0),
         OffsetCall::FdWrite { bytes, .. } => {
             let end = Outgoing {
                 writes: *writes,
@@ -62,13 +62,7 @@ pub fn socket_waits(
     };
     match call {
         SocketCall::SockRecv { length, flags, .. } => {
-            receive_waits(
-                channels,
-                Some(*reads),
-                *mode,
-                length,
-                flags & SOCK_RECV_WAITALL != 0,
-            )
+            receive_waits(channels, Some(*reads), *mode, length, flags)
         }
         SocketCall::SockSend { bytes, fds, .. } => {
             let end = Outgoing {
@@ -93,15 +87,15 @@ pub fn waited_on(kind: &OpenKind, call: &Call) -> Option<ObjId> {
     }
 }
 
-// Whether a read of so many bytes waits, at most so many or all of them, on an end with these flags.
+// Whether a receive with these flags waits, which asks for so many bytes, on an end of this mode. A read is one without flags.
 fn receive_waits(
     channels: &Channels,
     reads: Option<ObjId>,
     mode: u16,
-    asked: u64,
-    all: bool,
+    length: u64,
+    flags: u16,
 ) -> bool
-    ensures { result ≡ is_read_waiting channels.now mode all asked reads }
+    ensures { result ≡ is_read_waiting channels.now mode flags length reads }
 {
     let Some(id) = reads else {
         return false;
@@ -109,11 +103,7 @@ fn receive_waits(
     let Some(channel) = channels.get(id) else {
         return false;
     };
-    if is_nonblocking(mode) {
-        return false;
-    }
-    let asked = asked as usize;
-    channel.must_wait(asked) || (all && channel.must_wait_for_all(asked))
+    !is_nonblocking(mode) && must_wait(channel, length, flags)
 }
 
 // Whether a send waits, with so many descriptors.

@@ -1,6 +1,6 @@
 -- What a parse finds stands for the settings.
 use Rattle.std.proofs.Common.{◌≡◌, ◌≢◌, ◌∙◌, Bool, true, false, cond, List, [], ◌∷◌, map, Option, Some, None, codes, refl, sym, ap, subst, option_and_then, option_map, true≢false, IfSome}
-use Rattle.std.specs.Prelude.{Result, Ok, Err, IfOk, IsErrAnd, string_bytes}
+use Rattle.std.specs.Prelude.{Result, string_bytes}
 use Rattle.std.specs.Option.{ok_or}
 use Rattle.std.specs.declared.string.String.{String}
 use Rattle.std.specs.List.{list_all}
@@ -20,10 +20,12 @@ use Rattle.command_line.specs.Pieces.{Piece, has, text_of}
 use Rattle.command_line.specs.Settings.{Settings, settings_of, view}
 use Rattle.command_line.specs.Values.{Word}
 use Rattle.command_line.proofs.Loose.{loose_pieces_of}
-use Rattle.command_line.specs.Reading.{given_by, settings_in, words_of}
+use Rattle.command_line.specs.Reading.{given_by, settings_in, words_of, IfAt}
 use Rattle.command_line.specs.declared.settings.LaunchSettings.{LaunchSettings}
 use Rattle.command_line.specs.declared.reading.CommandLineFault.{CommandLineFault}
-use Rattle.command_line.specs.declared.reading.CommandLineFault.TheVariants.{Refused}
+use Rattle.lists.specs.Options.{IsStopOf, Reads}
+use Rattle.lists.specs.declared.stop.Stop.{Stop}
+use Rattle.lists.specs.declared.stop.Stop.TheVariants.{At, Memory}
 use Rattle.command_line.proofs.Finished.{end_rows, first_of_end, flag_end}
 use Rattle.command_line.proofs.Hyphens.{same_settings}
 use Rattle.command_line.proofs.Named.{is_named, pieces_of-names}
@@ -83,17 +85,13 @@ means (own ∷ words) texts faultless found rows = go (verdict words texts.1)
 
 -- ---- the answer
 
-pub ok_side : (o : Option LaunchSettings) (r : Result LaunchSettings CommandLineFault) (words : List Word) (s : Option Settings) → words_of words ≡ s → option_map view o ≡ s → r ≡ ok_or o Refused
-    → IfOk r (λ settings. words_of words ≡ Some (view settings))
-ok_side None r words s is same e = subst (λ r. IfOk r (λ settings. words_of words ≡ Some (view settings))) (sym e) tt
-ok_side (Some settings) r words s is same e = subst (λ r. IfOk r (λ settings. words_of words ≡ Some (view settings))) (sym e) (is ∙ sym same)
+-- a fault of words that aren't in the grammar
+pub stopped : {F : Type 0} (words : List Word) (stop : Stop F) → AreTexts words → IfAt stop (fault_of launch_app words ≢ []) → IsStopOf stop (words_of words)
+stopped words (At fault) texts faulty = refused words texts faulty
+stopped words Memory texts faulty = tt
 
-pub refused_side : (o : Option LaunchSettings) (r : Result LaunchSettings CommandLineFault) (words : List Word) (s : Option Settings) → words_of words ≡ s → option_map view o ≡ s → r ≡ ok_or o Refused
-    → r ≡ Err Refused → words_of words ≡ None
-refused_side None r words s is same e h = is ∙ sym same
-refused_side (Some settings) r words s is same e h = let bad : Ok settings ≡ Err Refused = sym e ∙ h in absurd (cc)
-
--- a fault that is passed up
-pub passed_up : (r : Result LaunchSettings CommandLineFault) (fault : CommandLineFault) → IsErrAnd r (λ found. found ≡ fault) → r ≡ Err Refused → fault ≡ Refused
-passed_up (Ok settings) fault h e = absurd h
-passed_up (Err found) fault h e = let same : found ≡ Refused = cc in sym h ∙ same
+-- the settings that were made of what was found, or none
+pub settings_read : (o : Option LaunchSettings) (r : Result LaunchSettings (Stop CommandLineFault)) (fault : CommandLineFault) (words : List Word) (s : Option Settings)
+    → words_of words ≡ s → option_map view o ≡ s → r ≡ ok_or o (At fault) → Reads view r (words_of words)
+settings_read None r fault words s is same e = subst (λ (r : Result LaunchSettings (Stop CommandLineFault)). Reads view r (words_of words)) (sym e) (is ∙ sym same)
+settings_read (Some settings) r fault words s is same e = subst (λ (r : Result LaunchSettings (Stop CommandLineFault)). Reads view r (words_of words)) (sym e) (is ∙ sym same)

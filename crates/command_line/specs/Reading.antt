@@ -1,6 +1,8 @@
 -- The words that a run is called with:
 -- `cloudabi-run [--tree FILE] [--stdin FILE] [--workers N] [--turns N] [--key HEX] [--epoch NS] [--history] PROGRAM`.
-use Rattle.std.specs.Prelude.{List, [], ◌∷◌, map, codes, Option, None, if◌then◌else◌, option_and_then}
+use Rattle.std.specs.Prelude.{⊤, List, [], ◌∷◌, map, codes, Option, None, if◌then◌else◌, option_and_then}
+use Rattle.lists.specs.declared.stop.Stop.{Stop}
+use Rattle.lists.specs.declared.stop.Stop.TheVariants.{At, Memory}
 use Rattle.command_line.specs.Pieces.{Piece, are_distinct, has, label, pieces_of, text_of}
 use Rattle.command_line.specs.Settings.{Given, Settings, settings_of}
 use Rattle.command_line.specs.Values.{Word}
@@ -25,3 +27,8 @@ settings_in pieces = if are_distinct (map label pieces) then settings_of (given_
 unfoldable pub words_of : List Word → Option Settings
 words_of [] = None
 words_of (own ∷ words) = option_and_then settings_in (pieces_of words)
+
+-- this holds where reading stopped for a fault
+abbrev pub IfAt : {F : Type 0} → Stop F → Type 0 → Type 0
+IfAt (At fault) P = P
+IfAt Memory P = ⊤

@@ -1,7 +1,9 @@
 -- The fault that the checks find is the first fault of the file.
-use Rattle.std.proofs.Common.{◌≡◌, ℕ, zero, suc, ◌+◌, ◌*◌, ◌<◌, inl, inr, ◌==◌, ◌||◌, Bool, true, false, not, nat_lt, List, [], ◌∷◌, length, bit_and, Option, Some, None, Result, Ok, Err, IfOk, IfErr, refl, sym, ap, subst, ◌∙◌, arith}
+use Rattle.std.proofs.Common.{◌≡◌, ℕ, zero, suc, ◌+◌, ◌*◌, ◌<◌, ◌==◌, ◌||◌, Bool, true, false, not, nat_lt, List, [], ◌∷◌, length, bit_and, Option, Some, None, Result, Ok, Err, IfOk, IfErr, refl, sym, ap, subst, ◌∙◌, arith}
 use Rattle.std.proofs.lemmas.List.{length-append}
 use Rattle.std.specs.Bool.{Decides}
+use Rattle.lists.specs.declared.stop.Stop.{Stop}
+use Rattle.lists.specs.declared.stop.Stop.TheVariants.{At, Memory}
 use Rattle.std.specs.List.{list_any}
 use Rattle.elf_image.specs.Checks.{fault_at, fault_if, fault_of, first_below, first_meeting, first_unloadable, is_class, is_entry, is_interp, is_magic, is_table, is_unloadable, meets_earlier, file_header, Reads}
 use Rattle.elf_image.specs.Faults.{HasFault, HasNoFault, IsFirst, IsFirstFault, IsRefusal, base_of, entry_of, order}
@@ -171,7 +173,6 @@ known bytes (fault.Overlap k) has =
     (length (program_headers bytes)) (e_phnum bytes) k (decides_meets (base_of bytes) (program_headers bytes))
     (count_headers bytes) has)
 known bytes fault.Entry has = found_if bytes _ fault.Entry (decides_entry bytes) has
-known bytes fault.NoMemory has = absurd has
 
 some_not_none : (found : Option ElfFault) (given : ElfFault) → found ≡ Some given → found ≡ None → ⊥
 some_not_none found given some none = cc
@@ -221,28 +222,26 @@ pub no_fault_is_found : (bytes : List ℕ) → HasNoFault bytes → fault_of byt
 no_fault_is_found bytes none = nothing_found bytes (fault_of bytes) refl none
 
 -- what a reading that answers right gives
-pub complete : {A : Type 0} (bytes : List ℕ) (given : Result A ElfFault) (value : A) (found : ElfFault) →
+pub complete : {A : Type 0} (bytes : List ℕ) (given : Result A (Stop ElfFault)) (value : A) (found : ElfFault) →
     Reads given (fault_of bytes) value →
-    IsFirstFault bytes found → given ≡ Err found
+    IsFirstFault bytes found → given ≡ Err (At found)
 complete bytes (Ok x) value found reads first =
     absurd (some_not_none (fault_of bytes) found (first_fault_is_found bytes found first) reads.0)
-complete bytes (Err e) value found reads first = elim reads [
-  | inl some ↦ ap Err (same_fault (fault_of bytes) found e (first_fault_is_found bytes found first) some)
-  | inr none ↦ absurd (some_not_none (fault_of bytes) found (first_fault_is_found bytes found first) none.0)
-]
+complete bytes (Err (At e)) value found reads first =
+    ap (λ fault. Err (At fault)) (same_fault (fault_of bytes) found e (first_fault_is_found bytes found first) reads)
+complete bytes (Err Memory) value found reads first =
+    absurd (some_not_none (fault_of bytes) found (first_fault_is_found bytes found first) reads)
 
-pub ok_of : {A : Type 0} (bytes : List ℕ) (given : Result A ElfFault) (value : A) → Reads given (fault_of bytes) value →
+pub ok_of : {A : Type 0} (bytes : List ℕ) (given : Result A (Stop ElfFault)) (value : A) → Reads given (fault_of bytes) value →
     IfOk given (λ made. HasNoFault bytes × (made ≡ value))
 ok_of bytes (Ok x) value reads = (has_no_fault bytes reads.0, reads.1)
 ok_of bytes (Err e) value reads = tt
 
-pub err_of : {A : Type 0} (bytes : List ℕ) (given : Result A ElfFault) (value : A) → Reads given (fault_of bytes) value →
-    IfErr given (λ found. IsRefusal bytes found)
+pub err_of : {A : Type 0} (bytes : List ℕ) (given : Result A (Stop ElfFault)) (value : A) → Reads given (fault_of bytes) value →
+    IfErr given (λ stop. IsRefusal bytes stop)
 err_of bytes (Ok x) value reads = tt
-err_of bytes (Err e) value reads = elim reads [
-  | inl some ↦ inl (is_first_fault bytes e some)
-  | inr none ↦ inr (none.1, has_no_fault bytes none.0)
-]
+err_of bytes (Err (At e)) value reads = is_first_fault bytes e reads
+err_of bytes (Err Memory) value reads = has_no_fault bytes reads
 
 at_none : (given : ℕ → ElfFault) (k : Option ℕ) → fault_at given k ≡ None → k ≡ None
 at_none given None e = refl
@@ -261,7 +260,7 @@ image_sound bytes e =
     (at_none fault.Overlap (first_meeting (base_of bytes) (program_headers bytes)) (none 10))
     (if_none (is_entry (base_of bytes) (program_headers bytes) (entry_of bytes)) fault.Entry (none 11))
 
-pub sound_of : (bytes : List ℕ) (given : Result Elf ElfFault) → Reads given (fault_of bytes) (image bytes) →
+pub sound_of : (bytes : List ℕ) (given : Result Elf (Stop ElfFault)) → Reads given (fault_of bytes) (image bytes) →
     IfOk given (λ elf. IsSound elf)
 sound_of bytes (Ok elf) reads = subst IsSound (sym reads.1) (image_sound bytes reads.0)
 sound_of bytes (Err e) reads = tt

@@ -1,8 +1,10 @@
 -- The checks of a file one after the other, as tests.
-use Rattle.std.specs.Prelude.{◌≡◌, ◌<◌, ◌≤◌, ◌⊎◌, ℕ, zero, suc, ◌+◌, ◌*◌, ◌%◌, ◌==◌, ◌&&◌, ◌||◌, Bool, cond, not, nat_lt, nat_le, List, length, take, slice_index, bit_and, Option, Some, None, Result, Ok, Err}
+use Rattle.std.specs.Prelude.{◌≡◌, ◌<◌, ◌≤◌, ℕ, zero, suc, ◌+◌, ◌*◌, ◌%◌, ◌==◌, ◌&&◌, ◌||◌, Bool, cond, not, nat_lt, nat_le, List, length, take, slice_index, bit_and, Option, Some, None, Result, Ok, Err}
 use Rattle.abi_base.specs.declared.address_space.TheConstants.{GUEST_BEGIN, INSTRUCTION_ALIGNMENT}
 use Rattle.std.specs.List.{list_any}
 use Rattle.std.specs.Str.{bytes_eq}
+use Rattle.lists.specs.declared.stop.Stop.{Stop}
+use Rattle.lists.specs.declared.stop.Stop.TheVariants.{At, Memory}
 use Rattle.elf_image.specs.Faults.{magic, base_of, entry_of}
 use Rattle.elf_image.specs.Fields.{e_type, e_machine, e_entry, e_phoff, e_flags, e_phentsize, e_phnum, program_headers}
 use Rattle.elf_image.specs.Segments.{is_load, may_execute, may_write, nth_header, start_of, end_of, first_page, page_end, page_total}
@@ -155,9 +157,10 @@ Reports (Ok given) found value = (found ≡ None) × (given ≡ value)
 Reports (Err given) found value = found ≡ Some given
 
 -- A reading of a whole file answers the same, or that memory ran out where no fault is found.
-abbrev pub Reads : {A : Type 0} → Result A ElfFault → Option ElfFault → A → Type 0
+abbrev pub Reads : {A : Type 0} → Result A (Stop ElfFault) → Option ElfFault → A → Type 0
 Reads (Ok given) found value = (found ≡ None) × (given ≡ value)
-Reads (Err given) found value = (found ≡ Some given) ⊎ ((found ≡ None) × (given ≡ fault.NoMemory))
+Reads (Err (At given)) found value = found ≡ Some given
+Reads (Err Memory) found value = found ≡ None
 
 -- the program headers have their place in a file of this size
 pub record IsTable (size : ℕ) (header : FileHeader) : Type 0 where

@@ -1,6 +1,8 @@
 -- Which fault a file has.
 use Rattle.std.specs.Prelude.{◌≡◌, ◌≢◌, ℕ, ◌+◌, ◌%◌, ◌<◌, ◌⊎◌, ◌==◌, cond, List, [], ◌∷◌, length, take, slice_index, bit_and}
 use Rattle.std.specs.List.{Any}
+use Rattle.lists.specs.declared.stop.Stop.{Stop}
+use Rattle.lists.specs.declared.stop.Stop.TheVariants.{At, Memory}
 use Rattle.abi_base.specs.declared.address_space.TheConstants.{INSTRUCTION_ALIGNMENT}
 use Rattle.elf_image.specs.Fields.{e_type, e_machine, e_entry, e_flags, e_phentsize, e_phnum, program_headers, program_headers_end}
 use Rattle.elf_image.specs.Segments.{IsUnloadable, MeetsEarlier, IsExecutable}
@@ -50,8 +52,6 @@ HasFault bytes (fault.Segment k) =
 HasFault bytes (fault.Overlap k) = IsFirst (MeetsEarlier (base_of bytes) (program_headers bytes)) (e_phnum bytes) k
 HasFault bytes fault.Entry =
     (entry_of bytes % INSTRUCTION_ALIGNMENT ≢ 0) ⊎ (IsExecutable (base_of bytes) (program_headers bytes) (entry_of bytes) → ⊥)
--- this is no fault of a file
-HasFault bytes fault.NoMemory = ⊥
 
 -- A fault's place in the order: where a file has several faults, it is refused for the first.
 abbrev pub order : ElfFault → ℕ
@@ -67,7 +67,6 @@ order fault.FloatAbi = 8
 order (fault.Segment k) = 9
 order (fault.Overlap k) = 10
 order fault.Entry = 11
-order fault.NoMemory = 12
 
 -- the file has this fault, and none that comes before it
 pub record IsFirstFault (bytes : List ℕ) (found : ElfFault) : Type 0 where
@@ -78,5 +77,6 @@ abbrev pub HasNoFault : List ℕ → Type 0
 HasNoFault bytes = (any : ElfFault) → HasFault bytes any → ⊥
 
 -- a refusal is right: it names the first fault, or memory ran out for a file that has none
-abbrev pub IsRefusal : List ℕ → ElfFault → Type 0
-IsRefusal bytes found = IsFirstFault bytes found ⊎ ((found ≡ fault.NoMemory) × HasNoFault bytes)
+abbrev pub IsRefusal : List ℕ → Stop ElfFault → Type 0
+IsRefusal bytes (At found) = IsFirstFault bytes found
+IsRefusal bytes Memory = HasNoFault bytes

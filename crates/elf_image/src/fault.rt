@@ -1,5 +1,5 @@
 //! Why a file is refused.
-use std::alloc::AllocError;
+use lists::Stop;
 use thiserror::Error;
 
 /// Why a file gave no image. A program header is named by its number, from 0 on.
@@ -41,18 +41,15 @@ pub enum ElfFault {
     /// The program would begin at no instruction of an executable segment.
     #[error("the entry is no multiple of 4 in an executable segment")]
     Entry,
-    /// Memory ran out.
-    #[error("there is no memory left")]
-    NoMemory,
 }
 
-impl From<AllocError> for ElfFault {
+impl From<ElfFault> for Stop<ElfFault> {
     ghost use Rattle.std.specs.Prelude.{◌≡◌};
-    ghost use Rattle.elf_image.specs.declared.fault.ElfFault.TheVariants.{NoMemory};
+    ghost use Rattle.lists.specs.declared.stop.Stop.TheVariants.{At};
 
-    ghost from_gives = { λ _ fault. fault ≡ NoMemory };
+    ghost from_gives = { λ fault stop. stop ≡ At fault };
 
-    fn from(_error: AllocError) -> ElfFault {
-        ElfFault::NoMemory
+    fn from(fault: ElfFault) -> Stop<ElfFault> {
+        Stop::At(fault)
     }
 }

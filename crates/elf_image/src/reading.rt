@@ -11,6 +11,7 @@ use crate::file_header::{FileHeader, SHARED_OBJECT, read_file_header};
 use crate::placing::{headers_address, segments};
 use crate::program_header::{HEADER_SIZE, program_headers_from};
 use crate::segments::check_program;
+use lists::Stop;
 use std::alloc::Global;
 
 // Where a file is placed that may be placed anywhere.
@@ -28,7 +29,7 @@ fn base_of(header: &FileHeader) -> u64
 }
 
 // The image of a file, or its first fault.
-fn read(alloc: Global, bytes: &[u8]) -> Result<Elf, ElfFault>
+fn read(alloc: Global, bytes: &[u8]) -> Result<Elf, Stop<ElfFault>>
     ensures { Reads result (fault_of bytes.now) (image bytes.now) }
 {
     let header = read_file_header(bytes)?;
@@ -49,12 +50,12 @@ fn read(alloc: Global, bytes: &[u8]) -> Result<Elf, ElfFault>
 }
 
 /// The image of an ELF file that has no fault, with its segments placed. Else its first fault, in the order of
-/// `ElfFault`; and `NoMemory` only for a file that has no fault.
-pub fn read_elf(alloc: Global, bytes: &[u8]) -> Result<Elf, ElfFault>
+/// `ElfFault`. Memory runs out only for a file that has no fault.
+pub fn read_elf(alloc: Global, bytes: &[u8]) -> Result<Elf, Stop<ElfFault>>
     ensures ok { IfOk result (λ elf. HasNoFault bytes.now × (elf ≡ image bytes.now)) }
     ensures sound { IfOk result (λ elf. IsSound elf) }
-    ensures fault { IfErr result (λ fault. IsRefusal bytes.now fault) }
-    ensures complete { (fault : ElfFault) → IsFirstFault bytes.now fault → result ≡ Err fault }
+    ensures fault { IfErr result (λ stop. IsRefusal bytes.now stop) }
+    ensures complete { (fault : ElfFault) → IsFirstFault bytes.now fault → result ≡ Err (Stop.At fault) }
     ensures decided { Reads result (fault_of bytes.now) (image bytes.now) }
 {
     read(alloc, bytes)

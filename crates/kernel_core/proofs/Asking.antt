@@ -30,7 +30,7 @@ use Rattle.kernel_model.proofs.Threading.{with_valid}
 use Rattle.kernel_model.proofs.Valids.{release_valid, tick_valid}
 use Rattle.poll_set.proofs.PollReads.{poll_takes_memory}
 use Rattle.kernel_model.specs.Done.{IsAnswered}
-use Rattle.kernel_core.specs.Locks.{BeginsWith}
+use Rattle.poll_set.specs.Polls.{BeginsWith}
 use Rattle.kernel_core.proofs.Acts.{act_allowed, act_refused, done_is_step, lack_is_step}
 use Rattle.kernel_core.proofs.Done.{answered_as, replied}
 use Rattle.kernel_core.proofs.Families.{lock_poll_does}
@@ -58,7 +58,7 @@ module _ (constants : Constants) (S : State) (who : Who) (call : Call) (table : 
     outcome_is =
         act_allowed constants (tick S) who call table here allowed
         ∙ ap (λ (it : Call). (meaning_of it).effect constants (whole (tick S)) who table) begins.1
-        ∙ lock_poll_does constants (tick S) who table (first ∷ begins.0) first begins.2 refl
+        ∙ lock_poll_does constants (tick S) who table first begins.0 begins.2
 
     succeeds : IsSuccess comes.answer
     succeeds =

@@ -29,7 +29,7 @@ use Rattle.kernel_model.specs.Families.EntryCalls.{entry_fds}
 use Rattle.kernel_model.specs.Families.FileCalls.{file_fd}
 use Rattle.kernel_model.specs.Families.LockCalls.{waited_outcome}
 use Rattle.kernel_model.specs.Families.MemoryCalls.{map_zeros, placed}
-use Rattle.kernel_model.specs.Families.Polls.{begins_with_lock, events_now, poll_by}
+use Rattle.kernel_model.specs.Families.Polls.{begins_with_lock, events_now, is_of_lock, poll_by}
 use Rattle.kernel_model.specs.Laws.{HasAll}
 use Rattle.kernel_model.specs.Meaning.{Meaning}
 use Rattle.kernel_model.specs.Need.{some_absent}
@@ -41,7 +41,7 @@ use Rattle.kernel_model.proofs.Lacks.{all_present}
 use Rattle.kernel_model.proofs.Tests.{none_is_no, not_true, same_some}
 use Rattle.kernel_model.proofs.Polls.{told_holds}
 use Rattle.kernel_parts.specs.Changes.{HasReplaced, change_outcome}
-use Rattle.poll_set.specs.Polls.{first_of, poll_outcome, sight}
+use Rattle.poll_set.specs.Polls.{poll_outcome, sight}
 use Rattle.poll_set.proofs.PollReads.{poll_reads, poll_takes_memory}
 use Rattle.kernel_core.proofs.Changes.{put_is}
 
@@ -144,14 +144,10 @@ lock_poll_by : (lock : Bool) (first : Subscription) (rest : List Subscription) (
 lock_poll_by true first rest constants S who table is = refl
 lock_poll_by false first rest constants S who table is = absurd (not_true is)
 
-pub lock_poll_does : (constants : Constants) (S : State) (who : Who) (table : Table) (subscriptions : List Subscription) (first : Subscription)
-    → begins_with_lock subscriptions ≡ true → Some first ≡ first_of subscriptions
-    → (meaning_of (call.Poll subscriptions)).effect constants (whole S) who table
+pub lock_poll_does : (constants : Constants) (S : State) (who : Who) (table : Table) (first : Subscription) (rest : List Subscription) → is_of_lock first.what ≡ true
+    → (meaning_of (call.Poll (first ∷ rest))).effect constants (whole S) who table
     ≡ waited_outcome first.userdata first.what who.pid who.tid who.stage (get S.processes who.pid)
-lock_poll_does constants S who table [] first is found = absurd (none_is_no first (sym found))
-lock_poll_does constants S who table (one ∷ rest) first is found =
-    lock_poll_by (begins_with_lock (one ∷ rest)) one rest constants S who table is
-    ∙ ap (λ (it : Subscription). waited_outcome it.userdata it.what who.pid who.tid who.stage (get S.processes who.pid)) (sym (same_some first one found))
+lock_poll_does constants S who table first rest is = lock_poll_by (is_of_lock first.what) first rest constants S who table is
 
 -- ---- refusals
 

@@ -4,7 +4,6 @@ pub mod Changes
 pub mod Channels
 pub mod Released
 pub mod Lives
-pub mod Streams
 pub mod OffsetCalls
 pub mod Acts
 pub mod Starts

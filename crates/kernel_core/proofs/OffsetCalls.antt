@@ -42,7 +42,7 @@ use Rattle.kernel_model.specs.Outcome.{Outcome, replies}
 use Rattle.kernel_model.specs.Release.{release}
 use Rattle.kernel_model.specs.Reply.{refused, success}
 use Rattle.kernel_model.specs.Rows.{base_row, either_row}
-use Rattle.kernel_model.specs.State.{State, Table, Tree, tree_of, Update, put_all, put_one, set_node, set_names, set_open}
+use Rattle.kernel_model.specs.State.{State, Table, Tree, tree_of, Update, put_all, put_one, set_node, set_names, set_open, set_term}
 use Rattle.kernel_model.specs.Families.TreeUpdates.{node_update}
 use Rattle.kernel_model.specs.Valid.{IsNearlyValid, IsValid}
 use Rattle.kernel_model.specs.View.{whole}
@@ -50,14 +50,13 @@ use Rattle.kernel_model.proofs.FileMeanings.{IsOfTree}
 use Rattle.kernel_model.proofs.OpenMeanings.{OpensWell}
 use Rattle.kernel_model.proofs.StreamCalls.{read_opens_well, seek_opens_well, write_opens_well}
 use Rattle.kernel_model.proofs.Tests.{none_is_no, same_some}
-use Rattle.kernel_model.proofs.Valids.{IsSameBehind, release_valid, set_open_nearly_valid, some_again}
+use Rattle.kernel_model.proofs.Valids.{IsSameBehind, release_valid, set_open_nearly_valid, set_term_nearly_valid, some_again}
 use Rattle.kernel_parts.specs.Entries.{open_in}
 use Rattle.kernel_model.specs.Done.{IsAnswered, IsDone}
 use Rattle.kernel_core.specs.OffsetCalls.{offset_outcome}
 use Rattle.kernel_parts.specs.StreamCalls.{IsStreamDone, stream_outcome, terms_after}
 use Rattle.kernel_core.proofs.Channels.{end_is}
 use Rattle.kernel_core.proofs.FileCalls.{tree_valid, with_tree}
-use Rattle.kernel_core.proofs.Streams.{written_valid}
 
 -- ---- what the calls mean
 
@@ -134,20 +133,37 @@ stream_puts (call.FdWrite n bytes) S which None = refl
 stream_puts (call.FdWrite n bytes) S which (Some stream) = refl
 stream_puts other S which stream = refl
 
+-- a valid state with more written to a stream is valid
+term_valid : (S : State) (which : ℕ) (stream : Stream) → IsValid S → IsValid (put_one (set_term which stream) S)
+term_valid S which stream v = record { nearly = set_term_nearly_valid S which stream v.nearly; held = v.held; kept = v.kept; going = v.going }
+
+stream_valid : (called : Call) (S : State) (which : ℕ) (stream : Option Stream) → IsValid S
+    → IsValid (with_terms S (terms_after (stream_outcome called which stream).updates S.terms))
+stream_valid (call.FdRead n length) S which None v = v
+stream_valid (call.FdRead n length) S which (Some stream) v = term_valid S which _ v
+stream_valid (call.FdWrite n bytes) S which None v = v
+stream_valid (call.FdWrite n bytes) S which (Some stream) v = term_valid S which _ v
+stream_valid other S which stream v = v
+
+pub left_valid : (called : Call) (S : State) (which : ℕ) (terms : FinMap nat_cmp Stream) (r : Result Answer AllocError) → IsValid S
+    → IsStreamDone (takes_memory called) (stream_outcome called which (get S.terms which)) S.terms terms r → IsValid (with_terms S terms)
+left_valid called S which terms (Ok given) valid done =
+    subst (λ (t : FinMap nat_cmp Stream). IsValid (with_terms S t)) (sym done.1) (stream_valid called S which (get S.terms which) valid)
+left_valid called S which terms (Err e) valid done = subst (λ (t : FinMap nat_cmp Stream). IsValid (with_terms S t)) (sym done.2) valid
+
 -- the state with other streams is that of the outcome, of which nothing is released
-stream_left : (called : Call) (S : State) (which : ℕ) (terms : FinMap nat_cmp Stream) → IsValid S → ((k : ℕ) → IsSome (get S.terms k) → IsSome (get terms k))
+stream_left : (called : Call) (S : State) (which : ℕ) (terms : FinMap nat_cmp Stream) → IsValid (with_terms S terms)
     → terms ≡ terms_after (stream_outcome called which (get S.terms which)).updates S.terms
     → with_terms S terms ≡ release (put_all (stream_outcome called which (get S.terms which)).updates S)
-stream_left called S which terms valid stays left =
-    sym (release_valid (with_terms S terms) (written_valid S terms stays valid))
-    ∙ ap release (ap (with_terms S) left ∙ sym (stream_puts called S which (get S.terms which)))
+stream_left called S which terms valid left =
+    sym (release_valid (with_terms S terms) valid) ∙ ap release (ap (with_terms S) left ∙ sym (stream_puts called S which (get S.terms which)))
 
 pub stream_done : (called : Call) (S : State) (which : ℕ) (terms : FinMap nat_cmp Stream) (r : Result Answer AllocError) → IsValid S
-    → ((k : ℕ) → IsSome (get S.terms k) → IsSome (get terms k))
     → IsStreamDone (takes_memory called) (stream_outcome called which (get S.terms which)) S.terms terms r
     → IsDone (takes_memory called) (stream_outcome called which (get S.terms which)) S (with_terms S terms) r
-stream_done called S which terms (Ok given) valid stays done = (done.0, stream_left called S which terms valid stays done.1)
-stream_done called S which terms (Err e) valid stays done = (done.0, done.1, ap (with_terms S) done.2)
+stream_done called S which terms (Ok given) valid done =
+    (done.0, stream_left called S which terms (left_valid called S which terms (Ok given) valid done) done.1)
+stream_done called S which terms (Err e) valid done = (done.0, done.1, ap (with_terms S) done.2)
 
 -- ---- ends of channels
 

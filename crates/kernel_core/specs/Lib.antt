@@ -9,4 +9,3 @@ pub mod Ends
 pub mod Sockets
 pub mod Forks
 pub mod Programs
-pub mod Locks

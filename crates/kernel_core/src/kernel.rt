@@ -22,7 +22,6 @@ ghost use Rattle.kernel_model.specs.State.{State, put_all, Table, Part, has_part
 ghost use Rattle.kernel_model.specs.Step.{failed, outside, IsStep, IsUntouched, end_unreleased, end_state, step_answer};
 ghost use Rattle.kernel_model.specs.Valid.{IsValid};
 
-use crate::locks::lock_of;
 use abi_types::{
     Answer, Call, Constants, Denial, Descriptor, Errno, Needed, Pid, Reply, Status, Thread, Tid,
     TryClone, Who,
@@ -35,6 +34,7 @@ use kernel_parts::{
 };
 use maps::NumMap;
 use object_store::Objects;
+use poll_set::lock_subscription;
 use right_rules::refused;
 use run_types::Launch;
 use std::alloc::{AllocError, Global};
@@ -129,7 +129,7 @@ impl Kernel {
         ensures step { IsStep constants.now self.old who.now call.now result self.new }
         ensures valid { IsValid self.old }
     {
-        if let Some(first) = lock_of(call) {
+        if let Some(first) = lock_subscription(call) {
             return self.lock_poll(constants, who, call, first);
         }
         self.clock += STEP_TIME;

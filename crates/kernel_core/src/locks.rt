@@ -1,31 +1,18 @@
 //! Calls on locks and condition variables, and polls of them.
-ghost use Rattle.std.specs.Prelude.{◌≡◌, ◌<◌, ◌^◌, false, IfSome, IfNone, IsSome};
+ghost use Rattle.std.specs.Prelude.{◌≡◌, ◌<◌, ◌^◌, IsSome};
 ghost use Rattle.std.specs.FinMap as map;
 ghost use Rattle.kernel_model.specs.Done.{IsAnswered};
-ghost use Rattle.kernel_core.specs.Locks.{BeginsWith};
-ghost use Rattle.kernel_model.specs.Calls.{meaning_of};
 ghost use Rattle.kernel_model.specs.Families.LockCalls.{signal_in, unlock_in, waited_outcome};
 ghost use Rattle.kernel_model.specs.State.{thread_of};
 ghost use Rattle.kernel_model.specs.Step.{IsStep};
 ghost use Rattle.kernel_model.specs.Valid.{IsValid};
+ghost use Rattle.poll_set.specs.Polls.{BeginsWith};
 
 use crate::kernel::{Kernel, STEP_TIME};
 use abi_types::{Answer, Call, Constants, Errno, Subscription, TryClone, Who};
 use guest_locks::Told;
 use kernel_parts::look_again;
-use poll_set::lock_awaited;
 use right_rules::{refusal, refused};
-
-// The first subscription of a poll, where that is of a lock or a condition variable.
-pub(crate) fn lock_of(call: &Call) -> Option<&Subscription>
-    ensures some { IfSome result (λ first. BeginsWith first.now call.now) }
-    ensures none { IfNone result ((meaning_of call.now).by_stage ≡ false) }
-{
-    match call {
-        Call::Poll { subscriptions } => lock_awaited(subscriptions.as_slice()),
-        _ => None,
-    }
-}
 
 impl Kernel {
     // Lets go of the lock at this address, whose word is this.

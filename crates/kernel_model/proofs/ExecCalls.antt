@@ -2,11 +2,10 @@
 --     listed_all      what holds of the descriptors that are listed
 --     listed_at      what stands under each number then
 --     exec_holds      what holds of each outcome of it
-use Rattle.std.proofs.Common.{◌≡◌, ◌≢◌, inl, inr, ℕ, zero, suc, ◌+◌, ◌<◌, ◌==◌, ◌||◌, Bool, true, false, cond, List, [], ◌∷◌, ◌++◌, map, Option, Some, None, is_some, refl, sym, ap, subst, ◌∙◌, arith}
+use Rattle.std.proofs.Common.{◌≡◌, inl, inr, ℕ, zero, suc, ◌+◌, ◌<◌, ◌==◌, ◌||◌, Bool, true, false, cond, List, [], ◌∷◌, ◌++◌, Option, Some, None, is_some, refl, sym, ap, subst, ◌∙◌, arith}
 use Rattle.std.proofs.lemmas.Bool.Decides.{eqb_tells}
 use Rattle.std.specs.Ordering.{nat_cmp}
 use Rattle.std.specs.FinMap.{empty, get, get-empty, insert, retain_keys}
-use Rattle.std.specs.List.{AllByRecursion}
 use Rattle.std.specs.Prelude.{if◌then◌else◌}
 use Rattle.elf_image.specs.Checks.{fault_of}
 use Rattle.elf_image.specs.declared.fault.ElfFault.{ElfFault}
@@ -30,7 +29,7 @@ use Rattle.kernel_model.specs.Reply.{refused}
 use Rattle.kernel_model.specs.Rows.{base_row}
 use Rattle.kernel_model.specs.Sight.{behind, process_parts, reached_by}
 use Rattle.kernel_model.specs.Start.{canary_words}
-use Rattle.kernel_model.specs.State.{State, ProcessState, Table, Threads, Part, at_clock, at_open, at_proc, at_status, has_part, put_all, put_one, same_part, set_process, set_table, tree_of}
+use Rattle.kernel_model.specs.State.{State, ProcessState, Table, Threads, Part, at_clock, at_open, at_proc, at_status, has_part, put_all, put_one, same_part, set_process, tree_of}
 use Rattle.kernel_model.specs.Step.{tick}
 use Rattle.kernel_model.specs.Valid.{IsNamed, IsNearlyValid}
 use Rattle.kernel_model.specs.View.{View, restrict, whole}
@@ -38,9 +37,8 @@ use Rattle.kernel_model.proofs.Branches.{behind_is_seen, seen_parts}
 use Rattle.kernel_model.proofs.OwnChanges.{Grows, set_process_nearly_valid}
 use Rattle.kernel_model.proofs.Parts.{beyond_process, number_apart, outside_cons, own_becomes, own_stays}
 use Rattle.kernel_model.proofs.Sights.{first_seen, open_seen}
-use Rattle.kernel_model.proofs.SocketCalls.{holder_lives, table_nearly_valid}
 use Rattle.kernel_model.proofs.Tests.{none_is_no, not_true}
-use Rattle.kernel_model.proofs.Valids.{same_value}
+use Rattle.kernel_model.proofs.Valids.{holder_lives, same_value, table_nearly_valid}
 
 -- ---- the descriptors that are listed
 

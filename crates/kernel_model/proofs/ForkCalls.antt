@@ -1,14 +1,12 @@
 -- The meaning of proc_fork is proper.
-use Rattle.std.proofs.Common.{◌≡◌, ◌≢◌, inl, inr, ℕ, suc, ◌+◌, ◌<◌, ◌≤◌, ◌^◌, ◌==◌, ◌||◌, Bool, true, false, List, [], ◌∷◌, ◌++◌, map, Option, Some, None, is_some, IsSome, refl, sym, ap, subst, ◌∙◌, arith}
+use Rattle.std.proofs.Common.{◌≡◌, ◌≢◌, inl, inr, ℕ, ◌+◌, ◌<◌, ◌≤◌, ◌^◌, ◌==◌, ◌||◌, Bool, true, false, [], ◌∷◌, ◌++◌, Option, Some, None, is_some, IsSome, refl, sym, ap, subst, ◌∙◌, arith}
 use Rattle.std.proofs.lemmas.Bool.{eqb-true}
 use Rattle.std.proofs.lemmas.Bool.Decides.{eqb_tells}
 use Rattle.std.specs.Ordering.{nat_cmp}
-use Rattle.std.specs.FinMap.{FinMap, empty, get, get-empty, insert}
-use Rattle.std.specs.List.{AllByRecursion}
+use Rattle.std.specs.FinMap.{empty, get, get-empty, insert}
 use Rattle.std.specs.Option.{option_map}
 use Rattle.std.specs.Prelude.{if◌then◌else◌}
 use Rattle.abi_base.specs.declared.errno.Errno.{Errno}
-use Rattle.abi_types.specs.declared.descriptor.Descriptor.{Descriptor}
 use Rattle.abi_types.specs.declared.open_kind.OpenKind.{OpenKind}
 use Rattle.abi_types.specs.declared.open_kind.OpenKind.TheVariants.{Process}
 use Rattle.abi_types.specs.declared.status.Status.{Status}
@@ -17,15 +15,15 @@ use Rattle.abi_types.specs.declared.thread.Thread.{Thread}
 use Rattle.abi_types.specs.declared.thread.Thread.TheVariants.{Runnable}
 use Rattle.maps.specs.Maps.{get-insert-same, get-insert-other}
 use Rattle.kernel_model.specs.ChildLaws.{IsUnmade}
-use Rattle.kernel_model.specs.Families.Children.{IsChild, MayHaveChild}
+use Rattle.kernel_model.specs.Families.Children.{IsChild}
 use Rattle.kernel_model.specs.Families.DescriptorCalls.{lowest_free}
 use Rattle.kernel_model.specs.Families.ForkCalls.{child_descriptor, child_kind, child_number, child_object, child_open, child_process, fork_at, fork_updates, proc_fork}
-use Rattle.kernel_model.specs.Families.Numbers.{can_number, made_more, new_parts, next_object, object_of, object_parts}
-use Rattle.kernel_model.specs.OwnChanges.{IsChangedBy, LeavesOwn, AllowsChange, child_parts, forks_one, is_success, made_parts, next_child, own_by, with_next_child}
+use Rattle.kernel_model.specs.Families.Numbers.{made_more, object_of, object_parts}
+use Rattle.kernel_model.specs.OwnChanges.{IsChangedBy, AllowsChange, child_parts, forks_one, is_success, made_parts, next_child, own_by, with_next_child}
 use Rattle.kernel_model.specs.Proper.{IsPlain, IsProper, IsUnset, AllCarryOn}
 use Rattle.kernel_model.specs.Release.{is_of_process}
 use Rattle.kernel_model.specs.Sight.{process_parts}
-use Rattle.kernel_model.specs.State.{State, ProcessState, Table, Part, at_chan, at_clock, at_node, at_names, at_open, at_proc, at_status, counts_in, has_part, part_of, put_all, put_one, same_part, set_open, set_process, set_status, set_table, thread_in}
+use Rattle.kernel_model.specs.State.{State, ProcessState, Table, Part, at_chan, at_clock, at_node, at_names, at_open, at_proc, at_status, counts_in, has_part, put_all, put_one, same_part, set_open, set_process, set_status, set_table, thread_in}
 use Rattle.kernel_model.specs.Valid.{AreSole, IsNamed, IsNearlyValid}
 use Rattle.kernel_model.proofs.Births.{CanFork, child_apart, fork_errors, fork_holds, forks, may_is, next_is}
 use Rattle.kernel_model.proofs.ChildLaws.{child_is_unmade, not_first}
@@ -37,10 +35,9 @@ use Rattle.kernel_model.proofs.PairCalls.{false_never, inserted_named, thread_li
 use Rattle.kernel_model.proofs.Pairs.{first_sole}
 use Rattle.kernel_model.proofs.Parts.{beyond_process, number_apart, of_first, of_second, outside_cons, own_stays}
 use Rattle.kernel_model.proofs.Sights.{first_seen}
-use Rattle.kernel_model.proofs.SocketCalls.{table_nearly_valid}
-use Rattle.kernel_model.proofs.Tests.{none_is_no, not_true, same_some}
+use Rattle.kernel_model.proofs.Tests.{none_is_no, not_true}
 use Rattle.kernel_model.proofs.TreeUpdates.{one_object}
-use Rattle.kernel_model.proofs.Valids.{same_value}
+use Rattle.kernel_model.proofs.Valids.{same_value, table_nearly_valid}
 
 -- ---- what it sets
 

@@ -3,21 +3,19 @@
 --     forks_are_numbered      the numbers of what it makes
 --     made_by_fork, child_is_new, child_runs, child_alone      the child of a step
 --     exec_begins      a proc_exec
-use Rattle.std.proofs.Common.{◌≡◌, ◌≢◌, inl, inr, ℕ, zero, suc, ◌+◌, ◌-◌, ◌*◌, ◌^◌, ◌<◌, ◌≤◌, ◌&&◌, Bool, true, false, cond, List, [], ◌∷◌, Option, Some, None, IsSome, is_some, refl, sym, ap, subst, ◌∙◌, arith}
+use Rattle.std.proofs.Common.{◌≡◌, ◌≢◌, inl, inr, ℕ, zero, suc, ◌+◌, ◌-◌, ◌*◌, ◌^◌, ◌<◌, ◌≤◌, ◌&&◌, Bool, true, false, cond, List, [], ◌∷◌, Option, Some, None, IsSome, refl, sym, ap, subst, ◌∙◌, arith}
 use Rattle.std.proofs.lemmas.Bool.{eq-eqb, leb-true, lt-ltb}
 use Rattle.std.specs.Prelude.{if◌then◌else◌}
 use Rattle.std.proofs.lemmas.Bool.Decides.{eqb_tells}
 use Rattle.std.specs.FinMap.{empty, get, get-empty, insert}
 use Rattle.std.specs.Option.{option_map}
 use Rattle.std.specs.Ordering.{nat_cmp}
-use Rattle.tree_model.specs.Changes.{bytes_of}
 use Rattle.abi_base.specs.declared.errno.Errno.{Errno}
 use Rattle.abi_base.specs.declared.errno.Errno.TheVariants.{Nomem, Success}
 use Rattle.abi_base.specs.declared.limits.TheConstants.{MOST_DESCRIPTORS}
 use Rattle.abi_types.specs.declared.call.Call.{Call}
 use Rattle.abi_types.specs.declared.call.Call.TheVariants.{ProcExec, ProcFork}
 use Rattle.abi_types.specs.declared.constants.Constants.{Constants}
-use Rattle.abi_types.specs.declared.descriptor.Descriptor.{Descriptor}
 use Rattle.abi_types.specs.declared.reply.Answer.{Answer}
 use Rattle.abi_types.specs.declared.reply.Answer.TheVariants as answer
 use Rattle.abi_types.specs.declared.reply.Reply.{Reply}
@@ -34,10 +32,9 @@ use Rattle.kernel_model.specs.Families.Children.{byte_unit}
 use Rattle.kernel_model.specs.Families.Numbers.{made_more}
 use Rattle.kernel_model.specs.OwnChanges.{begun_anew, is_success, next_child, with_next_child}
 use Rattle.kernel_model.specs.Release.{carriers, count_in, ends, holders, names_open, release, without_ended}
-use Rattle.kernel_model.specs.Reply.{refused}
 use Rattle.kernel_model.specs.Start.{canary_words}
-use Rattle.kernel_model.specs.State.{ProcessState, State, Table, counts_in, put_all, set_process, set_table, thread_in, thread_of, tree_of}
-use Rattle.kernel_model.specs.Step.{tick, step_answer, IsStep}
+use Rattle.kernel_model.specs.State.{ProcessState, State, Table, counts_in, put_all, set_process, set_table, thread_in, thread_of}
+use Rattle.kernel_model.specs.Step.{tick, IsStep}
 use Rattle.kernel_model.specs.Threads.{child_made}
 use Rattle.kernel_model.specs.Valid.{IsValid}
 use Rattle.kernel_model.specs.View.{whole}
@@ -45,12 +42,12 @@ use Rattle.kernel_model.proofs.Births.{CanFork, child_apart, fork_holds, may_is,
 use Rattle.kernel_model.proofs.ChildLaws.{child_is_unmade}
 use Rattle.kernel_model.proofs.DescriptorCalls.{free_is_absent}
 use Rattle.kernel_model.proofs.Ends.{table_spared}
-use Rattle.kernel_model.proofs.ExecCalls.{IsProgram, exec_at_holds, listed_at}
+use Rattle.kernel_model.proofs.ExecCalls.{exec_at_holds, listed_at}
 use Rattle.kernel_model.proofs.ObjectNumbers.{numbers_fit}
 use Rattle.kernel_model.proofs.Outcomes.{outcome_by_cases}
 use Rattle.kernel_model.proofs.Refusals.{same_reply}
 use Rattle.kernel_model.proofs.Sending.{succeeds_or}
-use Rattle.kernel_model.proofs.ThreadLaws.{Comes, fails, state_of}
+use Rattle.kernel_model.proofs.ThreadLaws.{Comes, fails}
 use Rattle.kernel_model.proofs.Threads.{refusal_of_fails}
 use Rattle.kernel_model.proofs.Touches.{live_spared}
 use Rattle.kernel_model.proofs.Tests.{none_is_no, not_true, same_some}

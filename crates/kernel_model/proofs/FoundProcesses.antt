@@ -1,13 +1,10 @@
 -- The calls on processes answer BADF only where a descriptor is absent.
-use Rattle.std.proofs.Common.{ℕ, true, false, List, [], ◌∷◌, Option, Some, None, refl, sym, subst, arith}
-use Rattle.std.specs.FinMap.{empty, get}
+use Rattle.std.proofs.Common.{ℕ, true, false, List, Option, Some, None, refl, sym, subst, arith}
+use Rattle.std.specs.FinMap.{get}
 use Rattle.elf_image.specs.Checks.{fault_of}
 use Rattle.elf_image.specs.declared.fault.ElfFault.{ElfFault}
 use Rattle.tree_model.specs.Changes.{bytes_of}
-use Rattle.abi_base.specs.declared.errno.Errno.{Errno}
-use Rattle.abi_base.specs.declared.errno.Errno.TheVariants.{Badf}
 use Rattle.abi_base.specs.declared.rights.TheConstants.Rights.{PROC_EXEC}
-use Rattle.abi_types.specs.declared.open_kind.OpenKind.{OpenKind}
 use Rattle.kernel_model.specs.Families.ClockCalls.{can_draw}
 use Rattle.kernel_model.specs.Families.ForkCalls.{exec_checked, exec_if, exec_open, listed, proc_exec}
 use Rattle.kernel_model.specs.Families.OpenMeaning.{at_descriptor}
@@ -17,7 +14,7 @@ use Rattle.kernel_model.specs.State.{ProcessState, State, Table, tree_of}
 use Rattle.kernel_model.specs.Step.{tick}
 use Rattle.kernel_model.specs.Valid.{IsNearlyValid}
 use Rattle.kernel_model.specs.View.{whole}
-use Rattle.kernel_model.proofs.FoundOpens.{IsGranted, NeverBadf, OnlyWhere, at_file, open_there}
+use Rattle.kernel_model.proofs.FoundOpens.{NeverBadf, OnlyWhere, at_file, open_there}
 
 module _ (key : List ℕ) (p t : ℕ) (table : Table) (elf : List ℕ) where
   exec_found : (own : Option ProcessState) (fault : Option ElfFault) → OnlyWhere ⊥ (exec_checked key p t table elf own fault)

@@ -1,26 +1,20 @@
 -- States in which locks were given to threads of a process that wait, or such threads were signalled.
 --     moved_nearly_valid      a nearly valid state stays so
 --     moved_keeps, moved_counts      what becomes of each thread, and of what each process has made
-use Rattle.std.proofs.Common.{◌≡◌, ◌≢◌, inl, inr, ℕ, ◌<◌, ◌≤◌, Option, Some, is_some, refl, sym, ap, subst, ◌∙◌, arith}
+use Rattle.std.proofs.Common.{◌≡◌, ◌≢◌, inl, inr, ℕ, ◌≤◌, Some, is_some, refl, sym, ap, subst, ◌∙◌, arith}
 use Rattle.std.proofs.lemmas.Bool.Decides.{eqb_tells}
 use Rattle.std.specs.Ordering.{nat_cmp}
 use Rattle.std.specs.FinMap.{empty, get, get-empty, insert}
-use Rattle.std.specs.Option.{option_map}
 use Rattle.abi_types.specs.declared.counts.Counts.{Counts}
-use Rattle.abi_types.specs.declared.open_kind.OpenKind.{OpenKind}
-use Rattle.abi_types.specs.declared.open_kind.OpenKind.TheVariants.{File, Directory, End, Terminal, Process}
 use Rattle.maps.specs.Maps.{get-insert-same, get-insert-other, same_numbers}
 use Rattle.tree_model.specs.Entries.{here_or_other}
 use Rattle.kernel_model.specs.Families.Locks.{with_threads}
 use Rattle.kernel_model.specs.State.{State, ProcessState, Threads, counts_in, put_one, set_process, thread_in, thread_of, threads_of}
-use Rattle.kernel_model.specs.Valid.{HasBehind, IsNearlyValid}
-use Rattle.kernel_model.proofs.Children.{all_born, one_keeps, KeepsChildren}
+use Rattle.kernel_model.specs.Valid.{IsNearlyValid}
+use Rattle.kernel_model.proofs.Children.{one_keeps, KeepsChildren}
 use Rattle.kernel_model.proofs.Locks.{keeps_same, Keeps, KeepsEach}
 use Rattle.kernel_model.proofs.Tests.{none_of, same_some}
-use Rattle.kernel_model.proofs.Valids.{some_again}
-
-abbrev threads_in : Option ProcessState → Option Threads
-threads_in own = option_map (λ (x : ProcessState). x.threads) own
+use Rattle.kernel_model.proofs.Valids.{processes_nearly_valid, some_again, threads_in}
 
 -- where there is no thread there is none after it
 still_none : (before after : Threads) → KeepsEach before after → before ≡ empty → after ≡ empty
@@ -61,31 +55,18 @@ module _ (S : State) (p : ℕ) (own : ProcessState) (threads : Threads) (there :
         | inr apart ↦ ap threads_in (other q apart.1) ∙ bare
       ]
 
-  behind_process : (kind : OpenKind) → HasBehind S kind → HasBehind after kind
-  behind_process (File q offset flags) h = h
-  behind_process (Directory q flags) h = h
-  behind_process (End reads writes flags form) h = h
-  behind_process (Terminal which flags) h = h
-  behind_process (Process q object) h = h
-
   same_children : KeepsChildren (Some own) (Some (with_threads own threads))
   same_children = (refl, omega arith)
 
   pub moved_nearly_valid : IsNearlyValid S → IsNearlyValid (put_one (set_process p (with_threads own threads)) S)
-  moved_nearly_valid v = record {
-    named = v.named;
-    behind = λ o kind e. behind_process kind (v.behind o kind e);
-    sole = v.sole;
-    tables = v.tables;
-    owns = λ q. some_again S.processes p own (with_threads own threads) q there ∙ v.owns q;
-    ended = λ q status is ends. ((v.ended q status is ends).0, still_bare q (v.ended q status is ends).1);
-    numbered = λ q t now. subst (λ (c : Counts). t ≤ c.threads) (sym (moved_counts q)) (v.numbered q t (sym (moved_keeps q t).here ∙ now));
-    made = λ q k small beyond fits. v.made q k small (subst (λ (c : Counts). c.objects < k) (moved_counts q) beyond) fits;
-    made_nodes = λ q k small beyond fits. v.made_nodes q k small (subst (λ (c : Counts). c.objects < k) (moved_counts q) beyond) fits;
-    made_channels = λ q k small beyond fits. v.made_channels q k small (subst (λ (c : Counts). c.objects < k) (moved_counts q) beyond) fits;
-    born = all_born S.processes (insert S.processes p (with_threads own threads))
-        (one_keeps S.processes p own (with_threads own threads) there same_children) v.born;
-    tree = v.tree;
-    waits = λ q t. (moved_keeps q t).may (v.waits q t);
-    channels = v.channels;
-  }
+  moved_nearly_valid v =
+      processes_nearly_valid S (insert S.processes p (with_threads own threads))
+      (record {
+        there = λ q. some_again S.processes p own (with_threads own threads) q there;
+        bare = still_bare;
+        numbered = λ q t now. subst (λ (c : Counts). t ≤ c.threads) (sym (moved_counts q)) (v.numbered q t (sym (moved_keeps q t).here ∙ now));
+        waits = λ q t. (moved_keeps q t).may (v.waits q t);
+        more = λ q. let same = ap (λ (c : Counts). c.objects) (moved_counts q) in omega (arith, same);
+        children = one_keeps S.processes p own (with_threads own threads) there same_children;
+      })
+      v

@@ -4,21 +4,18 @@
 use Rattle.std.proofs.Common.{◌≡◌, ◌≢◌, ℕ, ◌<◌, ◌^◌, Bool, true, false, List, [], ◌∷◌, Option, Some, None, inl, inr, refl, sym, ap, subst, ◌∙◌}
 use Rattle.std.proofs.lemmas.Bool.Decides.{eqb_tells}
 use Rattle.std.specs.Prelude.{⊤}
-use Rattle.std.specs.FinMap.{get, get-empty, empty, insert}
+use Rattle.std.specs.FinMap.{get, insert}
 use Rattle.std.specs.List.{AllByRecursion}
-use Rattle.std.specs.Ordering.{nat_cmp}
 use Rattle.abi_types.specs.declared.descriptor.Descriptor.{Descriptor}
 use Rattle.abi_types.specs.declared.open_kind.OpenKind.{OpenKind}
-use Rattle.abi_types.specs.declared.status.Status.{Status}
-use Rattle.abi_types.specs.declared.status.Status.TheVariants.{Live}
 use Rattle.maps.specs.Maps.{get-insert-same, get-insert-other}
 use Rattle.kernel_model.specs.Families.Numbers.{object_of}
 use Rattle.kernel_model.specs.State.{State, Table, Update, counts_in, put_all, put_one, set_names, set_node, set_open, set_process, set_table}
 use Rattle.kernel_model.specs.Valid.{AreSole, HasBehind, IsNamed, IsNearlyValid}
 use Rattle.kernel_model.specs.Release.{is_reader, is_writer}
-use Rattle.kernel_model.proofs.Channels.{KeepsEnds, opens_joined}
-use Rattle.kernel_model.proofs.Tests.{none_is_no, not_true}
-use Rattle.kernel_model.proofs.Valids.{behind_same, same_value, some_again}
+use Rattle.kernel_model.proofs.Channels.{KeepsEnds}
+use Rattle.kernel_model.proofs.Tests.{not_true}
+use Rattle.kernel_model.proofs.Valids.{holder_lives, opens_nearly_valid, same_value, table_nearly_valid}
 
 -- ---- the order of updates
 
@@ -78,75 +75,24 @@ module _ (S : State) (o : ℕ) (kind : OpenKind) (none : get S.opens o ≡ None)
   pub new_open_nearly_valid : HasBehind S kind → AreSole (insert S.opens o kind)
       → ((p k : ℕ) → p < 0xffffffff → (counts_in (get S.processes p)).objects < k → k < 2 ^ 32 → object_of p k ≢ o)
       → IsNearlyValid (put_one (set_open o kind) S)
-  new_open_nearly_valid there sole apart = record {
-    named = λ q n table d at here. still_named d (v.named q n table d at here);
-    behind = λ r k at. behind_same S (put_one (set_open o kind) S) (λ _. refl) (λ _ h. h) (λ _. refl) (λ _ h. h) k (still_behind there r k at);
-    sole = sole;
-    tables = v.tables;
-    owns = v.owns;
-    ended = v.ended;
-    numbered = v.numbered;
-    made = λ p k small beyond fits.
-        get-insert-other S.opens o kind (object_of p k) (apart p k small beyond fits) ∙ v.made p k small beyond fits;
-    made_nodes = v.made_nodes;
-    born = v.born;
-    tree = v.tree;
-    waits = v.waits;
-    channels = opens_joined S.opens (insert S.opens o kind) S.chans still_named still_ends v.channels;
-    made_channels = v.made_channels;
-  }
+  new_open_nearly_valid there sole apart =
+      opens_nearly_valid S (insert S.opens o kind) still_named (still_behind there) sole
+      (λ p k small beyond fits. get-insert-other S.opens o kind (object_of p k) (apart p k small beyond fits) ∙ v.made p k small beyond fits) still_ends v
 
 -- ---- one descriptor more
 
 module _ (S : State) (p : ℕ) (table : Table) (there : get S.tables p ≡ Some table) (v : IsNearlyValid S) (fd : ℕ) (e : Descriptor)
     (named : IsNamed (get S.opens e.id) e) where
-  more_named : (q n : ℕ) (other : Table) (d : Descriptor) → get (insert S.tables p (insert table fd e)) q ≡ Some other → get other n ≡ Some d
-      → IsNamed (get S.opens d.id) d
-  more_named q n other d at here =
-      elim (eqb_tells q p) [
+  more_named : (n : ℕ) (d : Descriptor) → get (insert table fd e) n ≡ Some d → IsNamed (get S.opens d.id) d
+  more_named n d here =
+      elim (eqb_tells n fd) [
         | inl same ↦ (
-            let is : insert table fd e ≡ other = same_value (insert table fd e) other (get (insert S.tables p (insert table fd e)) p)
-            (get-insert-same S.tables p (insert table fd e)) (subst (λ j. get (insert S.tables p (insert table fd e)) j ≡ Some other) same.1 at) in
-            one_named n d (ap (λ (t : Table). get t n) is ∙ here))
-        | inr apart ↦ v.named q n other d (sym (get-insert-other S.tables p (insert table fd e) q apart.1) ∙ at) here
-      ] where
-        one_named : (n : ℕ) (d : Descriptor) → get (insert table fd e) n ≡ Some d → IsNamed (get S.opens d.id) d
-        one_named n d here =
-            elim (eqb_tells n fd) [
-              | inl same ↦ (
-                  let here_now : get (insert table fd e) fd ≡ Some d = subst (λ j. get (insert table fd e) j ≡ Some d) same.1 here in
-                  let is : e ≡ d = same_value e d (get (insert table fd e) fd) (get-insert-same table fd e) here_now in
-                  subst (λ (x : Descriptor). IsNamed (get S.opens x.id) x) is named)
-              | inr apart ↦ v.named p n table d there (sym (get-insert-other table fd e n apart.1) ∙ here)
-            ]
-
-  -- a process that has ended has no descriptor
-  ended_bare : (q n : ℕ) (d : Descriptor) (status : Status) → get table n ≡ Some d → get S.statuses q ≡ Some status → status ≢ Live
-      → get (insert S.tables p (insert table fd e)) q ≡ Some empty
-  ended_bare q n d status here is ends =
-      elim (eqb_tells q p) [
-        | inl same ↦ (
-            let none_left : get S.tables p ≡ Some empty = subst (λ j. get S.tables j ≡ Some empty) same.1 (v.ended q status is ends).0 in
-            let bare : empty ≡ table = same_value empty table (get S.tables p) none_left there in
-            absurd (none_is_no d (sym (get-empty nat_cmp n) ∙ ap (λ (m : Table). get m n) bare ∙ here)))
-        | inr apart ↦ get-insert-other S.tables p (insert table fd e) q apart.1 ∙ (v.ended q status is ends).0
+            let here_now : get (insert table fd e) fd ≡ Some d = subst (λ j. get (insert table fd e) j ≡ Some d) same.1 here in
+            let is : e ≡ d = same_value e d (get (insert table fd e) fd) (get-insert-same table fd e) here_now in
+            subst (λ (x : Descriptor). IsNamed (get S.opens x.id) x) is named)
+        | inr apart ↦ v.named p n table d there (sym (get-insert-other table fd e n apart.1) ∙ here)
       ]
 
   -- a process that has some descriptor may have one more
   pub new_descriptor_nearly_valid : (n : ℕ) (d : Descriptor) → get table n ≡ Some d → IsNearlyValid (put_one (set_table p (insert table fd e)) S)
-  new_descriptor_nearly_valid n d here = record {
-    named = more_named;
-    behind = λ o kind at. behind_same S (put_one (set_table p (insert table fd e)) S) (λ _. refl) (λ _ h. h) (λ _. refl) (λ _ h. h) kind (v.behind o kind at);
-    sole = v.sole;
-    tables = λ q. some_again S.tables p table (insert table fd e) q there ∙ v.tables q;
-    owns = v.owns;
-    ended = λ q status is ends. (ended_bare q n d status here is ends, (v.ended q status is ends).1);
-    numbered = v.numbered;
-    made = v.made;
-    made_nodes = v.made_nodes;
-    born = v.born;
-    tree = v.tree;
-    waits = v.waits;
-    channels = v.channels;
-    made_channels = v.made_channels;
-  }
+  new_descriptor_nearly_valid n d here = table_nearly_valid S p table (insert table fd e) there (holder_lives S p n table d there here v) more_named v

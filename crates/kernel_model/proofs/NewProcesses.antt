@@ -1,12 +1,11 @@
 -- A state with one process more.
 --     more_born      processes that were born are so among more of them
 --     new_process_nearly_valid      a nearly valid state stays so with a child of a process
-use Rattle.std.proofs.Common.{◌≡◌, ◌≢◌, ℕ, ◌<◌, ◌≤◌, ◌^◌, [], ◌∷◌, inl, inr, Option, Some, None, IsSome, is_some, refl, sym, ap, subst, ◌∙◌}
+use Rattle.std.proofs.Common.{◌≡◌, ◌≢◌, ℕ, ◌<◌, ◌≤◌, [], ◌∷◌, inl, inr, Option, Some, None, IsSome, refl, sym, ap, subst, ◌∙◌}
 use Rattle.std.proofs.lemmas.Bool.Decides.{eqb_tells}
 use Rattle.std.specs.Ordering.{nat_cmp}
 use Rattle.std.specs.FinMap.{FinMap, empty, get, insert}
 use Rattle.std.specs.Option.{option_map}
-use Rattle.abi_types.specs.declared.counts.Counts.{Counts}
 use Rattle.abi_types.specs.declared.descriptor.Descriptor.{Descriptor}
 use Rattle.abi_types.specs.declared.status.Status.{Status}
 use Rattle.abi_types.specs.declared.status.Status.TheVariants.{Live}
@@ -17,7 +16,7 @@ use Rattle.kernel_model.specs.Families.Children.{IsBorn, IsChild}
 use Rattle.kernel_model.specs.State.{State, ProcessState, Table, Threads, counts_in, put_all, set_process, set_status, set_table, thread_in, thread_of, threads_of}
 use Rattle.kernel_model.specs.Valid.{IsNamed, IsNearlyValid}
 use Rattle.kernel_model.specs.Waits.{MayWait}
-use Rattle.kernel_model.proofs.Tests.{none_is_no, not_true, same_some}
+use Rattle.kernel_model.proofs.Tests.{none_is_no, not_true}
 use Rattle.kernel_model.proofs.Valids.{behind_same, same_keys_inserted, same_value, some_inserted}
 
 -- ---- children

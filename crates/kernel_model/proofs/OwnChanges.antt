@@ -5,9 +5,6 @@ use Rattle.std.proofs.Common.{◌≡◌, ◌≢◌, ◌⊎◌, inl, inr, ℕ, �
 use Rattle.std.proofs.lemmas.Bool.Decides.{eqb_tells}
 use Rattle.std.specs.Ordering.{nat_cmp}
 use Rattle.std.specs.FinMap.{empty, get, get-empty, insert, remove}
-use Rattle.std.specs.Option.{option_map}
-use Rattle.abi_types.specs.declared.open_kind.OpenKind.{OpenKind}
-use Rattle.abi_types.specs.declared.open_kind.OpenKind.TheVariants.{File, Directory, End, Terminal, Process}
 use Rattle.abi_types.specs.declared.thread.Thread.{Thread}
 use Rattle.abi_types.specs.declared.thread.Thread.TheVariants.{Runnable}
 use Rattle.maps.specs.Maps.{get-insert-same, get-insert-other, get-remove-same, get-remove-other, same_numbers}
@@ -15,11 +12,11 @@ use Rattle.tree_model.specs.Entries.{here_or_other}
 use Rattle.kernel_model.specs.Families.Numbers.{made_more}
 use Rattle.kernel_model.specs.OwnChanges.{drawn_more, next_thread, with_next_thread, without_thread}
 use Rattle.kernel_model.specs.State.{State, ProcessState, Threads, counts_in, put_one, set_process, thread_in, thread_of, threads_of}
-use Rattle.kernel_model.specs.Valid.{HasBehind, IsNearlyValid}
+use Rattle.kernel_model.specs.Valid.{IsNearlyValid}
 use Rattle.kernel_model.specs.Waits.{MayWait}
-use Rattle.kernel_model.proofs.Children.{all_born, one_keeps, KeepsChildren}
+use Rattle.kernel_model.proofs.Children.{one_keeps, KeepsChildren}
 use Rattle.kernel_model.proofs.Tests.{none_is_no, not_true, same_some}
-use Rattle.kernel_model.proofs.Valids.{some_again}
+use Rattle.kernel_model.proofs.Valids.{processes_nearly_valid, some_again, threads_in}
 
 -- What a process may become: each of its threads was there, or runs and is numbered; it has none where it had none; it has numbered and
 -- made no less, and no fewer children.
@@ -86,9 +83,6 @@ ended_grows own t = record {
   still_empty = same_numbers _ _ removed_empty
 
 -- ---- the state
-
-abbrev threads_in : Option ProcessState → Option Threads
-threads_in own = option_map (λ (x : ProcessState). x.threads) own
 
 module _ (S : State) (p : ℕ) (own new : ProcessState) (there : get S.processes p ≡ Some own) (grows : Grows own new) where
   abbrev after : State
@@ -166,30 +160,15 @@ module _ (S : State) (p : ℕ) (own new : ProcessState) (there : get S.processes
         | inr made ↦ subst (λ x. MayWait (Some x)) (sym made.0) tt
       ]
 
-  behind_process : (kind : OpenKind) → HasBehind S kind → HasBehind after kind
-  behind_process (File q offset flags) h = h
-  behind_process (Directory q flags) h = h
-  behind_process (End reads writes flags form) h = h
-  behind_process (Terminal which flags) h = h
-  behind_process (Process q object) h = h
-
   pub set_process_nearly_valid : IsNearlyValid S → IsNearlyValid (put_one (set_process p new) S)
-  set_process_nearly_valid v = record {
-    named = v.named;
-    behind = λ o kind e. behind_process kind (v.behind o kind e);
-    sole = v.sole;
-    tables = v.tables;
-    owns = λ q. some_again S.processes p own new q there ∙ v.owns q;
-    ended = λ q status is ends. ((v.ended q status is ends).0, still_bare q (v.ended q status is ends).1);
-    numbered = λ q t now. numbered_by v q t (thread_of after q t) refl now;
-    made = λ q k small beyond fits.
-        v.made q k small (let more = more_made q in omega (arith, more, beyond)) fits;
-    made_nodes = λ q k small beyond fits.
-        v.made_nodes q k small (let more = more_made q in omega (arith, more, beyond)) fits;
-    born = all_born S.processes (insert S.processes p new) (one_keeps S.processes p own new there grows.children) v.born;
-    tree = v.tree;
-    waits = λ q t. waits_by v q t (thread_of after q t) refl;
-    channels = v.channels;
-    made_channels = λ q k small beyond fits.
-        v.made_channels q k small (let more = more_made q in omega (arith, more, beyond)) fits;
-  }
+  set_process_nearly_valid v =
+      processes_nearly_valid S (insert S.processes p new)
+      (record {
+        there = λ q. some_again S.processes p own new q there;
+        bare = still_bare;
+        numbered = λ q t now. numbered_by v q t (thread_of after q t) refl now;
+        waits = λ q t. waits_by v q t (thread_of after q t) refl;
+        more = more_made;
+        children = one_keeps S.processes p own new there grows.children;
+      })
+      v

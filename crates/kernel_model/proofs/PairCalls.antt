@@ -36,10 +36,9 @@ use Rattle.kernel_model.proofs.OwnChanges.{more_grows, set_process_nearly_valid}
 use Rattle.kernel_model.proofs.Pairs.{ends_nearly_valid}
 use Rattle.kernel_model.proofs.Parts.{beyond_process, number_apart, of_first, of_second, outside_cons, own_stays}
 use Rattle.kernel_model.proofs.Sights.{first_seen}
-use Rattle.kernel_model.proofs.SocketCalls.{table_nearly_valid}
 use Rattle.kernel_model.proofs.Tests.{none_is_no, not_true, same_some}
 use Rattle.kernel_model.proofs.TreeUpdates.{one_object}
-use Rattle.kernel_model.proofs.Valids.{same_value}
+use Rattle.kernel_model.proofs.Valids.{same_value, table_nearly_valid}
 
 -- ---- each outcome
 

@@ -17,7 +17,7 @@ use Rattle.kernel_model.specs.Proper.{AllCarryOn, IsIn, IsPlain, IsProper, IsUns
 use Rattle.kernel_model.specs.Reply.{refused, success}
 use Rattle.kernel_model.specs.Sight.{process_parts}
 use Rattle.kernel_model.specs.Valid.{IsNearlyValid}
-use Rattle.kernel_model.specs.State.{State, ProcessState, Part, put_all, at_clock, at_proc, at_status, same_part, has_part, part_of}
+use Rattle.kernel_model.specs.State.{ProcessState, Part, put_all, at_clock, at_proc, at_status, same_part, has_part, part_of}
 use Rattle.kernel_model.proofs.Parts.{outside_cons, beyond_process, number_apart, own_stays}
 use Rattle.kernel_model.proofs.Sights.{first_seen}
 use Rattle.kernel_model.proofs.Tests.{not_true}

@@ -11,8 +11,6 @@ use Rattle.abi_types.specs.declared.node.Node.{Node}
 use Rattle.abi_types.specs.declared.node.NodeKind.{NodeKind}
 use Rattle.abi_types.specs.declared.node.NodeKind.TheVariants as kind
 use Rattle.abi_types.specs.declared.node.Times.{Times}
-use Rattle.abi_types.specs.declared.open_kind.OpenKind.{OpenKind}
-use Rattle.abi_types.specs.declared.open_kind.OpenKind.TheVariants.{File, Directory, End, Terminal, Process}
 use Rattle.maps.specs.Maps.{get-insert-same, get-insert-other, same_numbers}
 use Rattle.tree_model.specs.Changes.{is_file, is_file_kind, is_file_node, with_bytes, with_times}
 use Rattle.tree_model.specs.Entries.{here_or_other, with_bytes-changes, with_times-changes}
@@ -21,8 +19,9 @@ use Rattle.tree_model.specs.Tree.{IsTree, is_directory, is_directory_kind, is_di
 use Rattle.kernel_model.specs.Families.FileChanges.{retimed_in, retimed}
 use Rattle.kernel_model.specs.Families.Numbers.{object_of}
 use Rattle.kernel_model.specs.State.{State, Tree, tree_of, put_one, set_node}
-use Rattle.kernel_model.specs.Valid.{HasBehind, IsNearlyValid}
+use Rattle.kernel_model.specs.Valid.{IsNearlyValid}
 use Rattle.kernel_model.proofs.Tests.{none_of, not_true}
+use Rattle.kernel_model.proofs.TreeUpdates.{with_tree_nearly_valid}
 
 -- ---- trees that differ in one node
 
@@ -149,13 +148,6 @@ module _ (S : State) (n : ℕ) (node : Node) (u : Tree) (works : Reworks (tree_o
   directory_stays q =
       here_or_other (λ k. is_directory u k ≡ is_directory (tree_of S) k) n q works.directory (λ other. ap is_directory_node (works.others q other))
 
-  behind_stays : (kind : OpenKind) → HasBehind S kind → HasBehind (put_one (set_node n node) S) kind
-  behind_stays (File q offset flags) h = ap (λ t. is_file t q) put_tree ∙ file_stays q ∙ h
-  behind_stays (Directory q flags) h = ap (λ t. is_directory t q) put_tree ∙ directory_stays q ∙ h
-  behind_stays (End reads writes flags form) h = h
-  behind_stays (Terminal which flags) h = h
-  behind_stays (Process p object) h = h
-
   -- a node that wasn't there isn't there still
   none_comes : (q : ℕ) → get S.nodes q ≡ None → get (insert S.nodes n node) q ≡ None
   none_comes q none =
@@ -164,19 +156,12 @@ module _ (S : State) (n : ℕ) (node : Node) (u : Tree) (works : Reworks (tree_o
       (λ other. ap is_some (works.others q other)) ∙ ap is_some none)
 
   pub set_node_nearly_valid : IsNearlyValid S → IsNearlyValid (put_one (set_node n node) S)
-  set_node_nearly_valid v = record {
-    named = v.named;
-    behind = λ o kind e. behind_stays kind (v.behind o kind e);
-    sole = v.sole;
-    tables = v.tables;
-    owns = v.owns;
-    ended = v.ended;
-    numbered = v.numbered;
-    made = v.made;
-    made_nodes = λ p k small beyond fits. none_comes (object_of p k) (v.made_nodes p k small beyond fits);
-    born = v.born;
-    tree = subst IsTree (sym put_tree) (works.tree v.tree);
-    waits = v.waits;
-    channels = v.channels;
-    made_channels = v.made_channels;
-  }
+  set_node_nearly_valid v =
+      with_tree_nearly_valid S (tree_of (put_one (set_node n node) S))
+      (record {
+        tree = subst IsTree (sym put_tree) (works.tree v.tree);
+        files = λ q h. ap (λ t. is_file t q) put_tree ∙ file_stays q ∙ h;
+        directories = λ q h. ap (λ t. is_directory t q) put_tree ∙ directory_stays q ∙ h;
+        made = λ p k small beyond fits. none_comes (object_of p k) (v.made_nodes p k small beyond fits);
+      })
+      v

@@ -24,7 +24,7 @@ use Rattle.abi_types.specs.declared.thread.Thread.{Thread}
 use Rattle.abi_types.specs.declared.who.Who.{Who}
 use Rattle.maps.specs.Maps.{get-insert-same, get-insert-other}
 use Rattle.kernel_model.specs.Calls.{meaning_of}
-use Rattle.kernel_model.specs.ChannelLaws.{EndsCountNone, EndsMakeNone, NewChannelsHaveNone, PutsInto, SendsAreCounted}
+use Rattle.kernel_model.specs.ChannelLaws.{EndsCountNone, EndsMakeNone, GoesInto, IsPut, NewChannelsHaveNone, PutsInto, SendsAreCounted}
 use Rattle.kernel_model.specs.Channels.{Channel, Send, channel_left, pushed, room}
 use Rattle.kernel_model.specs.Families.ChannelCalls.{picked, send_open, sent_reply, written_reply}
 use Rattle.kernel_model.specs.Families.ClockCalls.{real_time}
@@ -134,16 +134,6 @@ released_from U c now there =
 
 -- ---- calls that send
 
--- a byte at least goes to channel c, which the open of the descriptor under fd writes
-record GoesInto (S : State) (table : Table) (fd : ℕ) (bytes : List ℕ) (c : ℕ) : Type 0 where
-  some : 0 < length bytes
-  d : Descriptor
-  socket : get table fd ≡ Some d
-  reads : Option ℕ
-  mode : ℕ
-  form : ChanKind
-  opened : get S.opens d.id ≡ Some (End reads (Some c) mode form)
-
 -- the channel that an open writes
 abbrev writes_of : Option OpenKind → Option ℕ
 writes_of (Some (End reads writes mode form)) = writes
@@ -155,7 +145,7 @@ where_any P all (answer.Reply reply) = all reply
 
 module _ (S : State) (table : Table) (fd : ℕ) (bytes : List ℕ) (c : ℕ) (was now : Channel) (before : get S.chans c ≡ Some was) where
   abbrev Into : Type 0
-  Into = GoesInto S table fd bytes c
+  Into = GoesInto (get table) S.opens fd bytes c
 
   -- nothing is sent to the channel where the call succeeds
   abbrev SendsNone : Reply → Type 0
@@ -330,7 +320,7 @@ record CallGoesInto (S : State) (who : Who) (call : Call) (c : ℕ) : Type 0 whe
   own : get S.tables who.pid ≡ Some table
   put : ℕ × List ℕ
   is : put_of call ≡ Some put
-  into : GoesInto S table put.0 put.1 c
+  into : GoesInto (get table) S.opens put.0 put.1 c
 
 module _ (constants : Constants) (S : State) (who : Who) (call : Call) (c : ℕ) (was now : Channel) (before : get S.chans c ≡ Some was) where
   -- after the outcome's updates the channel has had one send more, and the call sent to it; or as many, and where it succeeds it didn't
@@ -359,10 +349,10 @@ module _ (constants : Constants) (S : State) (who : Who) (call : Call) (c : ℕ)
         where_more P Q more (answer.Parked writes) h = h
         where_more P Q more (answer.Reply reply) h = more reply h
 
-        same_into : CallGoesInto S who call c → GoesInto S table fd bytes c
+        same_into : CallGoesInto S who call c → GoesInto (get table) S.opens fd bytes c
         same_into goes =
-            subst (λ (x : ℕ × List ℕ). GoesInto S table x.0 x.1 c) (same_some goes.put (fd, bytes) (sym goes.is ∙ is))
-            (subst (λ (t : Table). GoesInto S t goes.put.0 goes.put.1 c) (same_value goes.table table (get S.tables who.pid) goes.own own) goes.into)
+            subst (λ (x : ℕ × List ℕ). GoesInto (get table) S.opens x.0 x.1 c) (same_some goes.put (fd, bytes) (sym goes.is ∙ is))
+            (subst (λ (t : Table). GoesInto (get t) S.opens goes.put.0 goes.put.1 c) (same_value goes.table table (get S.tables who.pid) goes.own own) goes.into)
 
   by_none : (table : Table) → put_of call ≡ None → IsNearlyValid (tick S) → Settles ((meaning_of call).effect constants (whole (tick S)) who table)
   by_none table none nearly after =
@@ -400,13 +390,11 @@ unparked : (a : Answer) (who : Who) (thread : Thread) (V : State) (c : ℕ) (now
 unparked (answer.Parked writes) who thread V c now there = there
 unparked (answer.Reply reply) who thread V c now there = there
 
-put_is : (call : Call) (fd : ℕ) (bytes : List ℕ)
-    → (call ≡ calls.FdWrite fd bytes) ⊎ ((fds : List ℕ) × (flags : ℕ) × (call ≡ calls.SockSend fd bytes fds flags)) → put_of call ≡ Some (fd, bytes)
+put_is : (call : Call) (fd : ℕ) (bytes : List ℕ) → IsPut call fd bytes → put_of call ≡ Some (fd, bytes)
 put_is call fd bytes (inl is) = ap put_of is
 put_is call fd bytes (inr is) = ap put_of is.2
 
-call_is : (call : Call) (fd : ℕ) (bytes : List ℕ) → put_of call ≡ Some (fd, bytes)
-    → (call ≡ calls.FdWrite fd bytes) ⊎ ((fds : List ℕ) × (flags : ℕ) × (call ≡ calls.SockSend fd bytes fds flags))
+call_is : (call : Call) (fd : ℕ) (bytes : List ℕ) → put_of call ≡ Some (fd, bytes) → IsPut call fd bytes
 call_is (calls.FdWrite n xs) fd bytes is =
     let same : (n, xs) ≡ (fd, bytes) = same_some (n, xs) (fd, bytes) is in inl (ap (λ (x : ℕ × List ℕ). calls.FdWrite x.0 x.1) same)
 call_is (calls.SockSend n xs fds flags) fd bytes is =
@@ -420,18 +408,12 @@ puts_of S who call reply c success goes = record {
   fd = goes.put.0;
   bytes = goes.put.1;
   is = call_is call goes.put.0 goes.put.1 goes.is;
-  some = goes.into.some;
   reply = reply;
   replied = refl;
   success = success;
   table = goes.table;
   own = goes.own;
-  d = goes.into.d;
-  socket = goes.into.socket;
-  reads = goes.into.reads;
-  mode = goes.into.mode;
-  form = goes.into.form;
-  opened = goes.into.opened;
+  into = goes.into;
 }
 
 goes_of : (S : State) (who : Who) (call : Call) (given : Answer) (c : ℕ) → PutsInto S who call given c → CallGoesInto S who call c
@@ -440,7 +422,7 @@ goes_of S who call given c puts = record {
   own = puts.own;
   put = (puts.fd, puts.bytes);
   is = put_is call puts.fd puts.bytes puts.is;
-  into = record { some = puts.some; d = puts.d; socket = puts.socket; reads = puts.reads; mode = puts.mode; form = puts.form; opened = puts.opened };
+  into = puts.into;
 }
 
 -- a reply is a success where it puts something into a channel

@@ -24,7 +24,7 @@ use Rattle.abi_types.specs.declared.thread.Thread.{Thread}
 use Rattle.abi_types.specs.declared.who.Who.{Who}
 use Rattle.maps.specs.Maps.{get-insert-same, get-insert-other}
 use Rattle.kernel_model.specs.Calls.{meaning_of}
-use Rattle.kernel_model.specs.ChannelLaws.{ChannelsGoOn, EndsGoOn, SendsOn}
+use Rattle.kernel_model.specs.ChannelLaws.{ChannelsGoOn, EndsGoOn, IsSendInto, SendsOn}
 use Rattle.kernel_model.specs.Channels.{Channel, channel_left, has_room, is_hung, push_if, pushed, room}
 use Rattle.kernel_model.specs.Families.ChannelCalls.{is_nonblocking, picked, send_on, send_open, send_to, sent_by, sent_reply, waits_unless}
 use Rattle.kernel_model.specs.Families.FileMeaning.{on_open}
@@ -164,26 +164,9 @@ send_holds S bytes carried P refuses waits nothing (Some (End (Some r) (Some c) 
 send_holds S bytes carried P refuses waits nothing (Some (Terminal which flags)) sent = refuses Notsock (λ e. cc)
 send_holds S bytes carried P refuses waits nothing (Some (Process p object)) sent = refuses Notsock (λ e. cc)
 
--- The call is a sock_send to the channel, which carries this, but for its answer.
-record Lists (S : State) (who : Who) (call : Call) (c : ℕ) (carried : List Descriptor) : Type 0 where
-  fd : ℕ
-  bytes : List ℕ
-  fds : List ℕ
-  flags : ℕ
-  is : call ≡ SockSend fd bytes fds flags
-  some : 0 < length bytes
-  table : Table
-  own : get S.tables who.pid ≡ Some table
-  d : Descriptor
-  socket : get table fd ≡ Some d
-  reads : Option ℕ
-  mode : ℕ
-  form : ChanKind
-  opened : get S.opens d.id ≡ Some (End reads (Some c) mode form)
-  listed : carried ≡ picked table fds
-
+-- what is said of a send, but for the answer
 abbrev Adds : State → Who → Call → ℕ → List Descriptor → Type 0
-Adds S who call c carried = (carried ≡ []) ⊎ Lists S who call c carried
+Adds S who call c carried = (carried ≡ []) ⊎ IsSendInto S who call c carried
 
 module _ (S : State) (who : Who) (fd : ℕ) (bytes fds : List ℕ) (flags : ℕ) (table : Table) (own : get S.tables who.pid ≡ Some table) where
   abbrev sending : Call
@@ -207,15 +190,9 @@ module _ (S : State) (who : Who) (fd : ℕ) (bytes fds : List ℕ) (flags : ℕ)
         fds = fds;
         flags = flags;
         is = refl;
-        some = some;
         table = table;
         own = own;
-        d = d;
-        socket = here;
-        reads = Some r;
-        mode = mode;
-        form = form;
-        opened = opened;
+        into = record { some = some; d = d; socket = here; reads = Some r; mode = mode; form = form; opened = opened };
         listed = refl;
       }))))
 
@@ -285,26 +262,7 @@ Answered S who call given c carried = (carried ≡ []) ⊎ SendsOn S who call gi
 with_reply : (S : State) (who : Who) (call : Call) (reply : Reply) (c : ℕ) (carried : List Descriptor) → reply.errno ≡ Success → Adds S who call c carried
     → Answered S who call (answer.Reply reply) c carried
 with_reply S who call reply c carried success (inl bare) = inl bare
-with_reply S who call reply c carried success (inr sent) = inr (record {
-  fd = sent.fd;
-  bytes = sent.bytes;
-  fds = sent.fds;
-  flags = sent.flags;
-  is = sent.is;
-  some = sent.some;
-  reply = reply;
-  replied = refl;
-  success = success;
-  table = sent.table;
-  own = sent.own;
-  d = sent.d;
-  socket = sent.socket;
-  reads = sent.reads;
-  mode = sent.mode;
-  form = sent.form;
-  opened = sent.opened;
-  listed = sent.listed;
-})
+with_reply S who call reply c carried success (inr sent) = inr (record { send = sent; reply = reply; replied = refl; success = success })
 
 replied_goes : (constants : Constants) (S : State) (who : Who) (call : Call) (reply : Reply) (T : State) → IsValid S
     → IsStep constants S who call (answer.Reply reply) T → (reply.errno ≡ Success) ⊎ (reply.errno ≢ Success)

@@ -2,13 +2,11 @@
 --     picked_all, install_all      what holds of each descriptor of a table holds of those picked from it; and of those that a table has
 --         once more are installed in it
 --     receive_holds      what holds of each outcome of a receive
---     table_nearly_valid      a nearly valid state stays so with another table of a process that lives
 use Rattle.std.proofs.Common.{◌≡◌, ◌≢◌, inl, inr, ℕ, zero, suc, ◌==◌, ◌||◌, not, Bool, true, false, List, [], ◌∷◌, ◌++◌, take, map, min, Option, Some, None, refl, sym, ap, subst, ◌∙◌}
 use Rattle.std.proofs.lemmas.Bool.Decides.{eqb_tells}
 use Rattle.std.specs.Prelude.{bit_and}
-use Rattle.std.specs.FinMap.{empty, get, get-empty, insert}
+use Rattle.std.specs.FinMap.{empty, get, insert}
 use Rattle.std.specs.List.{AllByRecursion}
-use Rattle.std.specs.Ordering.{nat_cmp}
 use Rattle.abi_base.specs.declared.errno.Errno.{Errno}
 use Rattle.abi_base.specs.declared.errno.Errno.TheVariants.{Again, Badf, Mfile, Notsock, Pipe}
 use Rattle.abi_base.specs.declared.rights.TheConstants.Rights.{FD_READ, FD_WRITE, SOCK_SHUTDOWN}
@@ -17,8 +15,6 @@ use Rattle.abi_types.specs.declared.descriptor.Descriptor.{Descriptor}
 use Rattle.abi_types.specs.declared.open_kind.OpenKind.{OpenKind}
 use Rattle.abi_types.specs.declared.open_kind.OpenKind.TheVariants.{File, Directory, End, Terminal, Process}
 use Rattle.abi_types.specs.declared.reply.Answer.TheVariants as answer
-use Rattle.abi_types.specs.declared.status.Status.{Status}
-use Rattle.abi_types.specs.declared.status.Status.TheVariants.{Live}
 use Rattle.maps.specs.Maps.{get-insert-same, get-insert-other}
 use Rattle.kernel_model.specs.Channels.{Channel, Pulled, pull, reach, Gone, with_reader_shut, with_writer_shut}
 use Rattle.kernel_model.specs.Families.ChannelCalls.{Installed, added, both_parts, install, is_nonblocking, must_wait_by, peeks, picked, put_first, receive_from, receive_open, received_if, received_part, received_reply, received_with, send_open, sent_part, sent_reply, shut_if, shut_open, taken_if, truncated, waits_unless, where_free}
@@ -31,7 +27,7 @@ use Rattle.kernel_model.specs.Proper.{AllCarryOn, CarriesOn, IsIn, IsPlain, IsPr
 use Rattle.kernel_model.specs.Reply.{refused, success}
 use Rattle.kernel_model.specs.Rows.{base_row}
 use Rattle.kernel_model.specs.Sight.{behind, channel_part, process_parts}
-use Rattle.kernel_model.specs.State.{State, Table, Part, at_chan, at_clock, at_open, at_proc, at_status, has_part, part_of, put_all, put_one, same_part, set_chan, set_table}
+use Rattle.kernel_model.specs.State.{State, Table, Part, at_chan, at_clock, at_open, at_proc, at_status, has_part, part_of, put_all, put_one, same_part, set_chan}
 use Rattle.kernel_model.specs.Step.{tick}
 use Rattle.kernel_model.specs.Valid.{IsNamed, IsNearlyValid}
 use Rattle.kernel_model.specs.View.{View, restrict, whole}
@@ -42,7 +38,7 @@ use Rattle.kernel_model.proofs.ChannelChanges.{coming_all, drawn_carries, drawn_
 use Rattle.kernel_model.proofs.OpenMeanings.{AreOfNoProcess, OpensWell, SeesWell, apart_processes, apart_unset, by_open_is_proper, patient_descriptor, plain_descriptor, reads_descriptor, seen_descriptor}
 use Rattle.kernel_model.proofs.Parts.{beyond_process, has_left, has_right, number_apart, outside_cons, own_same}
 use Rattle.kernel_model.proofs.Tests.{none_is_no, not_true, same_some}
-use Rattle.kernel_model.proofs.Valids.{behind_same, same_value, some_again}
+use Rattle.kernel_model.proofs.Valids.{holder_lives, same_value, table_nearly_valid}
 
 -- ---- sock_send
 
@@ -213,49 +209,6 @@ install_all P (e ∷ ds) table installed is old new n d here =
     let from = installed_from (lowest_free table) (λ number. install (insert table number e) ds) installed is in
     install_all P ds (insert table from.0 e) from.1 from.3 (inserted_all P table from.0 e old new.0) new.1 n d
     (ap (λ (x : Installed). get x.table n) from.4 ∙ here)
-
--- a process that lives may have another table, of descriptors whose opens are there
-pub table_nearly_valid : (S : State) (p : ℕ) (old new : Table) → get S.tables p ≡ Some old
-    → ((status : Status) → get S.statuses p ≡ Some status → status ≢ Live → ⊥)
-    → ((n : ℕ) (d : Descriptor) → get new n ≡ Some d → IsNamed (get S.opens d.id) d) → IsNearlyValid S → IsNearlyValid (put_one (set_table p new) S)
-table_nearly_valid S p old new there lives named v = record {
-  named = all_named;
-  behind = λ o kind at. behind_same S (put_one (set_table p new) S) (λ _. refl) (λ _ h. h) (λ _. refl) (λ _ h. h) kind (v.behind o kind at);
-  sole = v.sole;
-  tables = λ q. some_again S.tables p old new q there ∙ v.tables q;
-  owns = v.owns;
-  ended = λ q status is ends. (still_bare q status is ends, (v.ended q status is ends).1);
-  numbered = v.numbered;
-  made = v.made;
-  made_nodes = v.made_nodes;
-  made_channels = v.made_channels;
-  born = v.born;
-  tree = v.tree;
-  waits = v.waits;
-  channels = v.channels;
-} where
-  all_named : (q n : ℕ) (table : Table) (d : Descriptor) → get (insert S.tables p new) q ≡ Some table → get table n ≡ Some d → IsNamed (get S.opens d.id) d
-  all_named q n table d at here =
-      elim (eqb_tells q p) [
-        | inl same ↦ (
-            let now : get (insert S.tables p new) p ≡ Some table = subst (λ k. get (insert S.tables p new) k ≡ Some table) same.1 at in
-            named n d (ap (λ (t : Table). get t n) (same_value new table (get (insert S.tables p new) p) (get-insert-same S.tables p new) now) ∙ here))
-        | inr other ↦ v.named q n table d (sym (get-insert-other S.tables p new q other.1) ∙ at) here
-      ]
-
-  still_bare : (q : ℕ) (status : Status) → get S.statuses q ≡ Some status → status ≢ Live → get (insert S.tables p new) q ≡ Some empty
-  still_bare q status is ends =
-      elim (eqb_tells q p) [
-        | inl same ↦ absurd (lives status (subst (λ k. get S.statuses k ≡ Some status) same.1 is) ends)
-        | inr other ↦ get-insert-other S.tables p new q other.1 ∙ (v.ended q status is ends).0
-      ]
-
--- a process with a descriptor lives
-pub holder_lives : (S : State) (p n : ℕ) (table : Table) (d : Descriptor) → get S.tables p ≡ Some table → get table n ≡ Some d → IsNearlyValid S
-    → (status : Status) → get S.statuses p ≡ Some status → status ≢ Live → ⊥
-holder_lives S p n table d there here v status is ends =
-    let bare : table ≡ empty = same_value table empty (get S.tables p) there (v.ended p status is ends).0 in
-    none_is_no d (sym (get-empty nat_cmp n) ∙ ap (λ (t : Table). get t n) (sym bare) ∙ here)
 
 -- ---- sock_recv
 

@@ -7,7 +7,7 @@
 --     each_of      what holds of each thread
 --     with_thread_is      the state as maps
 --     waits_if_same      what stays as a thread begins to wait
-use Rattle.std.proofs.Common.{◌≡◌, ◌≢◌, ℕ, ◌==◌, ◌≤◌, ◌<◌, ◌&&◌, Bool, true, false, inl, inr, Option, Some, None, IsSome, is_some, refl, sym, ap, subst, ◌∙◌}
+use Rattle.std.proofs.Common.{◌≡◌, ◌≢◌, ℕ, ◌==◌, ◌≤◌, ◌&&◌, Bool, true, false, inl, inr, Option, Some, None, IsSome, is_some, refl, sym, ap, subst, ◌∙◌, arith}
 use Rattle.std.proofs.lemmas.Bool.{eq-eqb}
 use Rattle.std.proofs.lemmas.Bool.Decides.{eqb_tells}
 use Rattle.std.specs.Prelude.{if◌then◌else◌}
@@ -21,13 +21,13 @@ use Rattle.abi_types.specs.declared.who.Who.{Who}
 use Rattle.maps.specs.Maps.{get-insert-same, get-insert-other, same_around}
 use Rattle.maps.specs.Closure.{changed, changed-empty, get-changed}
 use Rattle.kernel_model.specs.Outcome.{is_parked}
-use Rattle.kernel_model.specs.State.{State, Threads, ProcessState, Part, at_proc, same_part, Agree, thread_in, thread_of, counts_in}
+use Rattle.kernel_model.specs.State.{State, ProcessState, Part, at_proc, same_part, Agree, thread_in, thread_of, counts_in}
 use Rattle.kernel_model.specs.Valid.{IsNearlyValid, IsValid}
 use Rattle.kernel_model.specs.Waits.{thread_set, with_thread, waits_if, MayWait}
-use Rattle.kernel_model.proofs.Children.{all_born, same_keeps, KeepsChildren}
+use Rattle.kernel_model.proofs.Children.{same_keeps, KeepsChildren}
 use Rattle.kernel_model.proofs.Parts.{number_apart, other_number}
 use Rattle.kernel_model.proofs.Tests.{same_some}
-use Rattle.kernel_model.proofs.Valids.{behind_same, some_mapped}
+use Rattle.kernel_model.proofs.Valids.{processes_nearly_valid, some_mapped, threads_in}
 
 -- ---- where a test says whether a value is another
 
@@ -42,10 +42,6 @@ either_value P true x (Some before) new old = new
 either_value P false x (Some before) new old = old
 
 -- ---- what a process has then
-
--- the threads that it has, if it was ever made
-abbrev threads_in : Option ProcessState → Option Threads
-threads_in own = option_map (λ (x : ProcessState). x.threads) own
 
 -- the process with its thread doing that, where the test says so
 abbrev set_where : Bool → ℕ → Thread → ProcessState → ProcessState
@@ -141,25 +137,17 @@ module _ (S : State) (p t : ℕ) (thread : Thread) where
   -- ---- valid states
 
   pub with_nearly_valid : MayWait (Some thread) → IsNearlyValid S → IsNearlyValid (with_thread S p t thread)
-  with_nearly_valid may v = record {
-    named = v.named;
-    behind = λ o kind e. behind_same S (with_thread S p t thread) (λ _. refl) (λ _ h. h) (λ _. refl) (λ _ h. h) kind (v.behind o kind e);
-    sole = v.sole;
-    tables = v.tables;
-    owns = λ q. with_there q ∙ v.owns q;
-    ended = λ q status is ends. (
-      (v.ended q status is ends).0,
-      ap threads_in (with_processes q) ∙ bare_where (q == p) t thread (get S.processes q) (v.ended q status is ends).1,
-    );
-    numbered = λ q u there. subst (λ (c : Counts). u ≤ c.threads) (sym (with_counts q)) (v.numbered q u (thread_still q u there));
-    made = λ q k small beyond fits. v.made q k small (subst (λ (c : Counts). c.objects < k) (with_counts q) beyond) fits;
-    made_nodes = λ q k small beyond fits. v.made_nodes q k small (subst (λ (c : Counts). c.objects < k) (with_counts q) beyond) fits;
-    born = all_born S.processes (with_thread S p t thread).processes with_children v.born;
-    tree = v.tree;
-    waits = each_thread MayWait may v.waits;
-    channels = v.channels;
-    made_channels = λ q k small beyond fits. v.made_channels q k small (subst (λ (c : Counts). c.objects < k) (with_counts q) beyond) fits;
-  }
+  with_nearly_valid may v =
+      processes_nearly_valid S (with_thread S p t thread).processes
+      (record {
+        there = with_there;
+        bare = λ q bare. ap threads_in (with_processes q) ∙ bare_where (q == p) t thread (get S.processes q) bare;
+        numbered = λ q u there. subst (λ (c : Counts). u ≤ c.threads) (sym (with_counts q)) (v.numbered q u (thread_still q u there));
+        waits = each_thread MayWait may v.waits;
+        more = λ q. let same = ap (λ (c : Counts). c.objects) (with_counts q) in omega (arith, same);
+        children = with_children;
+      })
+      v
 
   pub with_valid : MayWait (Some thread) → IsValid S → IsValid (with_thread S p t thread)
   with_valid may v = record { nearly = with_nearly_valid may v.nearly; held = v.held; kept = v.kept; going = v.going }

@@ -39,15 +39,13 @@ use Rattle.kernel_model.specs.Families.Numbers.{made_more}
 use Rattle.kernel_model.specs.Families.Polls.{is_of_lock, poll, poll_by}
 use Rattle.kernel_model.specs.Meaning.{Meaning}
 use Rattle.kernel_model.specs.Need.{some_absent, first_lack, denied_by}
-use Rattle.kernel_model.specs.Outcome.{Outcome, OnReply}
+use Rattle.kernel_model.specs.Outcome.{OnReply}
 use Rattle.kernel_model.specs.OwnChanges.{OwnChange, keeps_own, makes_one, ends_one, draws_words, forks_one, begins_anew, lets_lock_go, signals_some, hands_lock_on, begins_to_sleep, begun_anew, born_of, drawn_more, next_child, with_next_child, is_done, is_success, next_thread, own_by, with_next_thread, without_thread, IsChangedBy, HasEndedBy, AllowsChange, LeavesOwn}
 use Rattle.kernel_model.specs.Reply.{refused, denied}
 use Rattle.kernel_model.specs.State.{State, Table, Threads, ProcessState, no_counts, counts_in, threads_of, thread_in, thread_of}
-use Rattle.kernel_model.specs.Step.{step_answer, IsStep}
 use Rattle.kernel_model.specs.Threads.{child_in, child_made, ends_caller, ends_others, makes_child, makes_thread, moves_waiters, next_number, stays, words_drawn, IsMoved, LeavesCounts, LeavesThreads}
 use Rattle.kernel_model.specs.Waits.{may_wait, thread_set, waiting, waits_if}
 use Rattle.kernel_model.proofs.Moving.{handed_moves, signalled_moves, unlocked_moves, moved_none, moved_set}
-use Rattle.kernel_model.proofs.Outcomes.{outcome_holds}
 use Rattle.kernel_model.proofs.Parts.{number_apart, own_stays}
 use Rattle.kernel_model.proofs.Threading.{with_here}
 use Rattle.kernel_model.proofs.Tests.{not_true, none_is_no, same_some}

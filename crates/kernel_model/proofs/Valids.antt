@@ -1,5 +1,5 @@
 -- What keeps a state valid, or nearly so: one part set, the end of a process, and the release.
-use Rattle.std.proofs.Common.{◌≡◌, ◌≢◌, inl, inr, ℕ, ◌+◌, ◌<◌, ◌≤◌, ◌==◌, Bool, true, false, not, cond, ◌&&◌, ◌||◌, T, Option, Some, None, IsSome, is_some, refl, sym, ap, subst, ◌∙◌, arith}
+use Rattle.std.proofs.Common.{◌≡◌, ◌≢◌, inl, inr, ℕ, ◌+◌, ◌<◌, ◌≤◌, ◌^◌, ◌==◌, Bool, true, false, not, cond, ◌&&◌, ◌||◌, T, Option, Some, None, IsSome, is_some, refl, sym, ap, subst, ◌∙◌, arith}
 use Rattle.std.proofs.lemmas.Bool.Decides.{eqb_tells}
 use Rattle.std.proofs.lemmas.Bool.{eq-eqb, eqb-true}
 use Rattle.std.proofs.lemmas.Nat.{and_assoc}
@@ -136,7 +136,7 @@ left_processes S p same =
     ∙ sym (ap is_some (status_after S (ends S) p) ∙ some_mapped (status_left killed) (get S.statuses p))
 
 -- a process that has ended, now or before, has no descriptor and no thread
-abbrev threads_in : Option ProcessState → Option Threads
+abbrev pub threads_in : Option ProcessState → Option Threads
 threads_in own = option_map (λ (x : ProcessState). x.threads) own
 
 bare_left : (killed : Bool) (before : Option Status) (table : Option Table) (own : Option ProcessState) (status : Status)
@@ -441,10 +441,12 @@ release_valid S v =
 
 -- ---- another moment
 
-pub moment_nearly_valid : (S : State) (moment : ℕ) → IsNearlyValid S → IsNearlyValid (record S { clock = moment })
-moment_nearly_valid S moment v = record {
+-- another moment, and other streams, where none is missing that was there
+outside_nearly_valid : (S : State) (moment : ℕ) (terms : FinMap nat_cmp Stream) → ((k : ℕ) → IsSome (get S.terms k) → IsSome (get terms k)) → IsNearlyValid S
+    → IsNearlyValid (record S { clock = moment; terms = terms })
+outside_nearly_valid S moment terms more v = record {
   named = v.named;
-  behind = λ o kind e. behind_same S (record S { clock = moment }) (λ _. refl) (λ _ h. h) (λ _. refl) (λ _ h. h) kind (v.behind o kind e);
+  behind = λ o kind e. behind_same S (record S { clock = moment; terms = terms }) (λ _. refl) more (λ _. refl) (λ _ h. h) kind (v.behind o kind e);
   sole = v.sole;
   tables = v.tables;
   owns = v.owns;
@@ -458,6 +460,9 @@ moment_nearly_valid S moment v = record {
   channels = v.channels;
   made_channels = v.made_channels;
 }
+
+pub moment_nearly_valid : (S : State) (moment : ℕ) → IsNearlyValid S → IsNearlyValid (record S { clock = moment })
+moment_nearly_valid S moment v = outside_nearly_valid S moment S.terms (λ _ h. h) v
 
 pub tick_nearly_valid : (S : State) → IsNearlyValid S → IsNearlyValid (tick S)
 tick_nearly_valid S v = moment_nearly_valid S (S.clock + 1000) v
@@ -488,28 +493,8 @@ same_keys_inserted m n k x y same q =
       | inr other ↦ ap is_some (get-insert-other m k x q other.1) ∙ same q ∙ sym (ap is_some (get-insert-other n k y q other.1))
     ]
 
--- other streams, where none is missing that was there
-pub streams_nearly_valid : (S : State) (terms : FinMap nat_cmp Stream) → ((k : ℕ) → IsSome (get S.terms k) → IsSome (get terms k)) → IsNearlyValid S
-    → IsNearlyValid (record S { terms = terms })
-streams_nearly_valid S terms more v = record {
-  named = v.named;
-  behind = λ o kind e. behind_same S (record S { terms = terms }) (λ _. refl) more (λ _. refl) (λ _ h. h) kind (v.behind o kind e);
-  sole = v.sole;
-  tables = v.tables;
-  owns = v.owns;
-  ended = v.ended;
-  numbered = v.numbered;
-  made = v.made;
-  made_nodes = v.made_nodes;
-  born = v.born;
-  tree = v.tree;
-  waits = v.waits;
-  channels = v.channels;
-  made_channels = v.made_channels;
-}
-
 pub set_term_nearly_valid : (S : State) (k : ℕ) (stream : Stream) → IsNearlyValid S → IsNearlyValid (put_one (set_term k stream) S)
-set_term_nearly_valid S k stream v = streams_nearly_valid S (insert S.terms k stream) (some_inserted S.terms k stream) v
+set_term_nearly_valid S k stream v = outside_nearly_valid S S.clock (insert S.terms k stream) (some_inserted S.terms k stream) v
 
 -- ---- one value
 
@@ -547,30 +532,6 @@ from_empty new from = same_numbers new empty (λ n. none_at n (get new n) refl �
   none_at n None there = refl
   none_at n (Some d) there = let old = from n d there in absurd (none_is_no old.1 (sym (get-empty nat_cmp old.0) ∙ old.2))
 
--- the table of a process that has ended stays empty
-ended_table : (S : State) (p : ℕ) (old new : Table) → get S.tables p ≡ Some old → ComesFromTable old new → IsNearlyValid S
-    → (q : ℕ) (status : Status) → get S.statuses q ≡ Some status → status ≢ Live → get (insert S.tables p new) q ≡ Some empty
-ended_table S p old new there from v q status is ends =
-    elim (eqb_tells q p) [
-      | inl same ↦ (
-          let bare : old ≡ empty = same_value old empty (get S.tables p) there (subst (λ j. get S.tables j ≡ Some empty) same.1 (v.ended q status is ends).0) in
-          subst (λ j. get (insert S.tables p new) j ≡ Some empty) (sym same.1)
-          (get-insert-same S.tables p new ∙ ap Some (from_empty new (subst (λ t. ComesFromTable t new) bare from))))
-      | inr other ↦ get-insert-other S.tables p new q other.1 ∙ (v.ended q status is ends).0
-    ]
-
-table_named : (S : State) (p : ℕ) (old new : Table) → get S.tables p ≡ Some old → ComesFromTable old new → IsNearlyValid S
-    → (q n : ℕ) (table : Table) (d : Descriptor) → get (insert S.tables p new) q ≡ Some table → get table n ≡ Some d → IsNamed (get S.opens d.id) d
-table_named S p old new there from v q n table d at here =
-    elim (eqb_tells q p) [
-      | inl same ↦ (
-          let is : new ≡ table = same_value new table (get (insert S.tables p new) p) (get-insert-same S.tables p new) (subst (λ j. get (insert S.tables p new) j ≡ Some table) same.1 at) in
-          let source = from n d (ap (λ (t : Table). get t n) is ∙ here) in
-          subst (λ o. IsNamed (get S.opens o) d) (sym source.3.0)
-          (within_named (get S.opens source.1.id) d source.1 (v.named p source.0 old source.1 there source.2) source.3))
-      | inr other ↦ v.named q n table d (sym (get-insert-other S.tables p new q other.1) ∙ at) here
-    ]
-
 -- a process that has a table still has one
 pub some_again : {X : Type 0} (m : FinMap nat_cmp X) (k : ℕ) (x y : X) (q : ℕ) → get m k ≡ Some x → is_some (get (insert m k y) q) ≡ is_some (get m q)
 some_again m k x y q there =
@@ -579,16 +540,17 @@ some_again m k x y q there =
       | inr other ↦ ap is_some (get-insert-other m k y q other.1)
     ]
 
--- a process's table may be set to one whose descriptors come from it
-pub set_table_nearly_valid : (S : State) (p : ℕ) (old new : Table) → get S.tables p ≡ Some old → ComesFromTable old new → IsNearlyValid S
-    → IsNearlyValid (put_one (set_table p new) S)
-set_table_nearly_valid S p old new there from v = record {
-  named = table_named S p old new there from v;
+-- a process may have another table, of descriptors whose opens are there, and of none where it has ended
+put_table_nearly_valid : (S : State) (p : ℕ) (old new : Table) → get S.tables p ≡ Some old
+    → ((n : ℕ) (d : Descriptor) → get new n ≡ Some d → IsNamed (get S.opens d.id) d)
+    → ((status : Status) → get S.statuses p ≡ Some status → status ≢ Live → new ≡ empty) → IsNearlyValid S → IsNearlyValid (put_one (set_table p new) S)
+put_table_nearly_valid S p old new there named bare v = record {
+  named = all_named;
   behind = λ o kind e. behind_same S (put_one (set_table p new) S) (λ _. refl) (λ _ h. h) (λ _. refl) (λ _ h. h) kind (v.behind o kind e);
   sole = v.sole;
   tables = λ q. some_again S.tables p old new q there ∙ v.tables q;
   owns = v.owns;
-  ended = λ q status is ends. (ended_table S p old new there from v q status is ends, (v.ended q status is ends).1);
+  ended = λ q status is ends. (still_bare q status is ends, (v.ended q status is ends).1);
   numbered = v.numbered;
   made = v.made;
   made_nodes = v.made_nodes;
@@ -597,7 +559,50 @@ set_table_nearly_valid S p old new there from v = record {
   waits = v.waits;
   channels = v.channels;
   made_channels = v.made_channels;
-}
+} where
+  all_named : (q n : ℕ) (table : Table) (d : Descriptor) → get (insert S.tables p new) q ≡ Some table → get table n ≡ Some d → IsNamed (get S.opens d.id) d
+  all_named q n table d at here =
+      elim (eqb_tells q p) [
+        | inl same ↦ (
+            let now : get (insert S.tables p new) p ≡ Some table = subst (λ k. get (insert S.tables p new) k ≡ Some table) same.1 at in
+            named n d (ap (λ (t : Table). get t n) (same_value new table (get (insert S.tables p new) p) (get-insert-same S.tables p new) now) ∙ here))
+        | inr other ↦ v.named q n table d (sym (get-insert-other S.tables p new q other.1) ∙ at) here
+      ]
+
+  still_bare : (q : ℕ) (status : Status) → get S.statuses q ≡ Some status → status ≢ Live → get (insert S.tables p new) q ≡ Some empty
+  still_bare q status is ends =
+      elim (eqb_tells q p) [
+        | inl same ↦ subst (λ k. get (insert S.tables p new) k ≡ Some empty) (sym same.1)
+            (get-insert-same S.tables p new ∙ ap Some (bare status (subst (λ k. get S.statuses k ≡ Some status) same.1 is) ends))
+        | inr other ↦ get-insert-other S.tables p new q other.1 ∙ (v.ended q status is ends).0
+      ]
+
+-- one whose descriptors come from the table
+pub set_table_nearly_valid : (S : State) (p : ℕ) (old new : Table) → get S.tables p ≡ Some old → ComesFromTable old new → IsNearlyValid S
+    → IsNearlyValid (put_one (set_table p new) S)
+set_table_nearly_valid S p old new there from v =
+    put_table_nearly_valid S p old new there
+    (λ n d here.
+    let source = from n d here in
+    subst (λ o. IsNamed (get S.opens o) d) (sym source.3.0)
+    (within_named (get S.opens source.1.id) d source.1 (v.named p source.0 old source.1 there source.2) source.3))
+    (λ status is ends.
+    from_empty new (subst (λ t. ComesFromTable t new) (same_value old empty (get S.tables p) there (v.ended p status is ends).0) from))
+    v
+
+-- any whose descriptors' opens are there, where the process lives
+pub table_nearly_valid : (S : State) (p : ℕ) (old new : Table) → get S.tables p ≡ Some old
+    → ((status : Status) → get S.statuses p ≡ Some status → status ≢ Live → ⊥)
+    → ((n : ℕ) (d : Descriptor) → get new n ≡ Some d → IsNamed (get S.opens d.id) d) → IsNearlyValid S → IsNearlyValid (put_one (set_table p new) S)
+table_nearly_valid S p old new there lives named v =
+    put_table_nearly_valid S p old new there named (λ status is ends. absurd (lives status is ends)) v
+
+-- a process with a descriptor lives
+pub holder_lives : (S : State) (p n : ℕ) (table : Table) (d : Descriptor) → get S.tables p ≡ Some table → get table n ≡ Some d → IsNearlyValid S
+    → (status : Status) → get S.statuses p ≡ Some status → status ≢ Live → ⊥
+holder_lives S p n table d there here v status is ends =
+    let bare : table ≡ empty = same_value table empty (get S.tables p) there (v.ended p status is ends).0 in
+    none_is_no d (sym (get-empty nat_cmp n) ∙ ap (λ (t : Table). get t n) (sym bare) ∙ here)
 
 -- ---- another value of an open
 
@@ -667,21 +672,61 @@ open_ends S o kind new there same c = (
   open_passes S o kind new there (is_writer c) (same.alike c).2,
 )
 
-pub set_open_nearly_valid : (S : State) (o : ℕ) (kind new : OpenKind) → get S.opens o ≡ Some kind → IsSameBehind kind new → IsNearlyValid S
-    → IsNearlyValid (put_one (set_open o new) S)
-set_open_nearly_valid S o kind new there same v = record {
-  named = λ q n table d at here. open_named S o kind new there same d (v.named q n table d at here);
-  behind = λ r k at. behind_same S (put_one (set_open o new) S) (λ _. refl) (λ _ h. h) (λ _. refl) (λ _ h. h) k (open_behind S o kind new there same v r k at);
-  sole = same_sole S.opens o kind new there same v.sole;
+-- other opens, where none is missing that a descriptor or a channel names, and that no process is yet to make
+pub opens_nearly_valid : (S : State) (opens : FinMap nat_cmp OpenKind) → ((d : Descriptor) → IsNamed (get S.opens d.id) d → IsNamed (get opens d.id) d)
+    → ((r : ℕ) (kind : OpenKind) → get opens r ≡ Some kind → HasBehind S kind) → AreSole opens
+    → ((p k : ℕ) → p < 0xffffffff → (counts_in (get S.processes p)).objects < k → k < 2 ^ 32 → get opens (object_of p k) ≡ None)
+    → ((c : ℕ) → KeepsEnds S.opens opens c) → IsNearlyValid S → IsNearlyValid (record S { opens = opens })
+opens_nearly_valid S opens named behind sole made keeps v = record {
+  named = λ q n table d at here. named d (v.named q n table d at here);
+  behind = λ r kind at. behind_same S (record S { opens = opens }) (λ _. refl) (λ _ h. h) (λ _. refl) (λ _ h. h) kind (behind r kind at);
+  sole = sole;
   tables = v.tables;
   owns = v.owns;
   ended = v.ended;
   numbered = v.numbered;
-  made = λ p k small beyond fits. open_made S o kind new (object_of p k) there (v.made p k small beyond fits);
+  made = made;
   made_nodes = v.made_nodes;
   born = v.born;
   tree = v.tree;
   waits = v.waits;
-  channels = opens_joined S.opens (insert S.opens o new) S.chans (open_named S o kind new there same) (open_ends S o kind new there same) v.channels;
+  channels = opens_joined S.opens opens S.chans named keeps v.channels;
   made_channels = v.made_channels;
+}
+
+pub set_open_nearly_valid : (S : State) (o : ℕ) (kind new : OpenKind) → get S.opens o ≡ Some kind → IsSameBehind kind new → IsNearlyValid S
+    → IsNearlyValid (put_one (set_open o new) S)
+set_open_nearly_valid S o kind new there same v =
+    opens_nearly_valid S (insert S.opens o new) (open_named S o kind new there same) (open_behind S o kind new there same v)
+    (same_sole S.opens o kind new there same v.sole) (λ p k small beyond fits. open_made S o kind new (object_of p k) there (v.made p k small beyond fits))
+    (open_ends S o kind new there same) v
+
+-- ---- other processes
+
+-- What processes have of their own after this state: each is there as it was, has no thread where it had none, has made no less, and no fewer
+-- children; each thread is numbered, and waits in a call that may wait.
+pub record AreGrown (S : State) (after : FinMap nat_cmp ProcessState) : Type 0 where
+  pub there : (q : ℕ) → is_some (get after q) ≡ is_some (get S.processes q)
+  pub bare : (q : ℕ) → threads_of S q ≡ Some empty → threads_in (get after q) ≡ Some empty
+  pub numbered : (q t : ℕ) → IsSome (thread_in (threads_in (get after q)) t) → t ≤ (counts_in (get after q)).threads
+  pub waits : (q t : ℕ) → MayWait (thread_in (threads_in (get after q)) t)
+  pub more : (q : ℕ) → (counts_in (get S.processes q)).objects ≤ (counts_in (get after q)).objects
+  pub children : (q : ℕ) → KeepsChildren (get S.processes q) (get after q)
+
+pub processes_nearly_valid : (S : State) (after : FinMap nat_cmp ProcessState) → AreGrown S after → IsNearlyValid S → IsNearlyValid (record S { processes = after })
+processes_nearly_valid S after grown v = record {
+  named = v.named;
+  behind = λ o kind e. behind_same S (record S { processes = after }) (λ _. refl) (λ _ h. h) (λ _. refl) (λ _ h. h) kind (v.behind o kind e);
+  sole = v.sole;
+  tables = v.tables;
+  owns = λ q. grown.there q ∙ v.owns q;
+  ended = λ q status is ends. ((v.ended q status is ends).0, grown.bare q (v.ended q status is ends).1);
+  numbered = grown.numbered;
+  made = λ q k small beyond fits. v.made q k small (let more = grown.more q in omega (arith, more, beyond)) fits;
+  made_nodes = λ q k small beyond fits. v.made_nodes q k small (let more = grown.more q in omega (arith, more, beyond)) fits;
+  born = all_born S.processes after grown.children v.born;
+  tree = v.tree;
+  waits = grown.waits;
+  channels = v.channels;
+  made_channels = λ q k small beyond fits. v.made_channels q k small (let more = grown.more q in omega (arith, more, beyond)) fits;
 }

@@ -1,8 +1,9 @@
 -- What sends and reads do to a channel, in other words than their definitions, and what calls on its ends answer: the statements that are
 -- the contracts of the functions of src/channel_laws.rt.
 use Rattle.std.specs.Prelude.{◌≡◌, ◌≢◌, ◌↔◌, ◌⊎◌, ⊤, ℕ, suc, ◌<◌, ◌≤◌, bit_and, true, false, List, [], ◌∷◌, ◌++◌, length, min, take, Option, None, Some}
-use Rattle.std.specs.FinMap.{get}
+use Rattle.std.specs.FinMap.{FinMap, get}
 use Rattle.std.specs.List.{AllByRecursion}
+use Rattle.std.specs.Ordering.{nat_cmp}
 use Rattle.abi_base.specs.declared.errno.Errno.TheVariants.{Again, Pipe, Success}
 use Rattle.abi_base.specs.declared.flags.TheConstants.{FDFLAG_NONBLOCK, SOCK_RECV_WAITALL}
 use Rattle.abi_types.specs.declared.chan_kind.ChanKind.{ChanKind}
@@ -10,6 +11,7 @@ use Rattle.abi_types.specs.declared.call.Call.TheVariants.{FdRead, FdWrite, Sock
 use Rattle.abi_types.specs.declared.call.Call.{Call}
 use Rattle.abi_types.specs.declared.constants.Constants.{Constants}
 use Rattle.abi_types.specs.declared.descriptor.Descriptor.{Descriptor}
+use Rattle.abi_types.specs.declared.open_kind.OpenKind.{OpenKind}
 use Rattle.abi_types.specs.declared.open_kind.OpenKind.TheVariants.{End}
 use Rattle.abi_types.specs.declared.reply.Answer.{Answer}
 use Rattle.abi_types.specs.declared.reply.Answer.TheVariants as answer
@@ -148,27 +150,35 @@ SendsAnswer =
 
 -- ---- steps
 
--- The call is a sock_send of a byte at least, by a descriptor of its process whose open writes channel c; it succeeded, and this is what
--- stands in the process's table under the numbers that it lists, in their order.
-pub record SendsOn (S : State) (who : Who) (call : Call) (given : Answer) (c : ℕ) (carried : List Descriptor) : Type 0 where
+-- A byte at least goes to channel c, by the descriptor under number fd of what is held under numbers: its open, of these, writes the channel.
+pub record GoesInto (held : ℕ → Option Descriptor) (opens : FinMap nat_cmp OpenKind) (fd : ℕ) (bytes : List ℕ) (c : ℕ) : Type 0 where
+  pub some : 0 < length bytes
+  pub d : Descriptor
+  pub socket : held fd ≡ Some d
+  pub reads : Option ℕ
+  pub mode : ℕ
+  pub form : ChanKind
+  pub opened : get opens d.id ≡ Some (End reads (Some c) mode form)
+
+-- The call is a sock_send of a byte at least, by a descriptor of its process whose open writes channel c, and this is what stands in the
+-- process's table under the numbers that it lists, in their order.
+pub record IsSendInto (S : State) (who : Who) (call : Call) (c : ℕ) (carried : List Descriptor) : Type 0 where
   pub fd : ℕ
   pub bytes : List ℕ
   pub fds : List ℕ
   pub flags : ℕ
   pub is : call ≡ SockSend fd bytes fds flags
-  pub some : 0 < length bytes
+  pub table : Table
+  pub own : get S.tables who.pid ≡ Some table
+  pub into : GoesInto (get table) S.opens fd bytes c
+  pub listed : carried ≡ picked table fds
+
+-- It is one that succeeded.
+pub record SendsOn (S : State) (who : Who) (call : Call) (given : Answer) (c : ℕ) (carried : List Descriptor) : Type 0 where
+  pub send : IsSendInto S who call c carried
   pub reply : Reply
   pub replied : given ≡ answer.Reply reply
   pub success : reply.errno ≡ Success
-  pub table : Table
-  pub own : get S.tables who.pid ≡ Some table
-  pub d : Descriptor
-  pub socket : get table fd ≡ Some d
-  pub reads : Option ℕ
-  pub mode : ℕ
-  pub form : ChanKind
-  pub opened : get S.opens d.id ≡ Some (End reads (Some c) mode form)
-  pub listed : carried ≡ picked table fds
 
 -- A channel that is there after a step from a valid state goes on from what it was before it: where one send more stands behind the others
 -- it carries nothing, or the call is a sock_send to this channel, and the send carries what the call lists.
@@ -186,23 +196,21 @@ EndsGoOn =
 
 -- ---- how many sends a channel has had
 
+-- The call sends these bytes by the descriptor under fd: it is an fd_write or a sock_send.
+abbrev pub IsPut : Call → ℕ → List ℕ → Type 0
+IsPut call fd bytes = (call ≡ FdWrite fd bytes) ⊎ ((fds : List ℕ) × (flags : ℕ) × (call ≡ SockSend fd bytes fds flags))
+
 -- The call is an fd_write or a sock_send of a byte at least, by a descriptor of its process whose open writes channel c, and it succeeded.
 pub record PutsInto (S : State) (who : Who) (call : Call) (given : Answer) (c : ℕ) : Type 0 where
   pub fd : ℕ
   pub bytes : List ℕ
-  pub is : (call ≡ FdWrite fd bytes) ⊎ ((fds : List ℕ) × (flags : ℕ) × (call ≡ SockSend fd bytes fds flags))
-  pub some : 0 < length bytes
+  pub is : IsPut call fd bytes
   pub reply : Reply
   pub replied : given ≡ answer.Reply reply
   pub success : reply.errno ≡ Success
   pub table : Table
   pub own : get S.tables who.pid ≡ Some table
-  pub d : Descriptor
-  pub socket : get table fd ≡ Some d
-  pub reads : Option ℕ
-  pub mode : ℕ
-  pub form : ChanKind
-  pub opened : get S.opens d.id ≡ Some (End reads (Some c) mode form)
+  pub into : GoesInto (get table) S.opens fd bytes c
 
 -- A channel that is there before a step from a valid state and after it has had one send more after it where the call puts one into it, and as
 -- many as before it where it doesn't.

@@ -13,7 +13,7 @@ use abi_types::{Call, Constants, Family, OffsetCall, SocketCall, Stage};
 use channel_calls::{end_waits, socket_waits};
 use fd_table::FdTable;
 use guest_locks::has_left;
-use poll_set::{Surroundings, begins_with_lock, is_due, poll_deadline, poll_waits};
+use poll_set::{Surroundings, is_due, lock_subscription, poll_deadline, poll_waits};
 use right_rules::refusal;
 
 /// By which moment a call is over that was made at the moment `since`, if there is such a moment that counts.
@@ -80,16 +80,6 @@ fn socket_call_waits(around: Surroundings<'_>, table: &FdTable, call: SocketCall
     }
 }
 
-// Whether a thread that waits in the call goes on by how far its wait has come: it waits for a lock or at a condition variable.
-fn is_by_stage(call: &Call) -> bool
-    ensures { result ≡ (meaning_of call.now).by_stage }
-{
-    match call {
-        Call::Poll { subscriptions } => begins_with_lock(subscriptions.as_slice()),
-        _ => false,
-    }
-}
-
 // Whether a call would be done now and not wait, which was made at the moment `since` by a thread of the process that has this table.
 fn is_over(around: Surroundings<'_>, table: Option<&FdTable>, since: u64, call: &Call) -> bool
     requires { (meaning_of call.now).by_stage ≡ false }
@@ -121,7 +111,7 @@ pub fn goes_on(
 ) -> bool
     ensures { result ≡ goes_on around.entry.constants.now around.entry.objects.now.kinds around.entry.channels.now around.entry.statuses.now around.entry.now (option_copied table.entry) call.now since until stage }
 {
-    if is_by_stage(call) {
+    if lock_subscription(call).is_some() {
         return guest_locks::goes_on(stage, is_due(around.now, until));
     }
     is_over(around, table, since, call)

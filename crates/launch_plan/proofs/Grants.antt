@@ -8,8 +8,6 @@ use Rattle.launch_values.specs.declared.node.Node.{Node}
 use Rattle.launch_values.specs.Shape.{of_list, of_pairs}
 use Rattle.launch_values.specs.Views.{shape_of, pair_of}
 use Rattle.launch_plan.specs.declared.fault.PlanFault.{PlanFault}
-use Rattle.launch_plan.specs.declared.fault.PlanFault.TheVariants as faults
-use Rattle.launch_plan.specs.Answers.{IsFault}
 use Rattle.lists.specs.Results.{◌>>=◌}
 use Rattle.launch_plan.specs.Tagged.{Tagged, tagged, tagged_in_items, tagged_in_pairs, grant_of, grants_of, grants_behind}
 
@@ -58,16 +56,6 @@ pub fails : (tree : Tree) (before : List Grant) (rest ts us : List Tagged) (whol
 fails tree before rest ts us whole e split all here =
     sym all ∙ ap (grants_behind tree before) split ∙ behind_both tree before ts us
     ∙ ap (λ (r : Result (List Grant) PlanFault). r >>= λ mid. grants_behind tree mid us) here
-
-pub refused : {X Y : Type 0} (e : PlanFault) (a : Result X PlanFault) (b : Result Y PlanFault) → (a ≡ Err e → b ≡ Err e) → IsFault e a → IsFault e b
-refused (faults.UnknownTag line) a b f h = f h
-refused (faults.BadFd line) a b f h = f h
-refused (faults.BadFile line) a b f h = f h
-refused (faults.UnknownRight line) a b f h = f h
-refused (faults.NoSuchPath line) a b f h = f h
-refused faults.TooMany a b f h = f h
-refused faults.TooLarge a b f h = f h
-refused faults.NoMemory a b f h = h
 
 -- ---- what is left of a list
 

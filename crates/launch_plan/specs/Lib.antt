@@ -3,4 +3,3 @@ pub mod Tagged
 pub mod Values
 pub mod Sizes
 pub mod Plan
-pub mod Answers

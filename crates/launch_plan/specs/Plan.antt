@@ -7,9 +7,14 @@ use Rattle.tree_model.specs.Tree.{Tree}
 use Rattle.launch_values.specs.Shape.{Shape}
 use Rattle.launch_plan.specs.declared.fault.PlanFault.{PlanFault}
 use Rattle.launch_plan.specs.declared.fault.PlanFault.TheVariants as faults
+use Rattle.launch_plan.specs.declared.planning.Planned.{Planned}
 use Rattle.lists.specs.Results.{◌>>=◌}
 use Rattle.launch_plan.specs.Tagged.{tagged, grants_of}
 use Rattle.launch_plan.specs.Values.{value_of}
+
+-- argument data and descriptors of a program
+abbrev pub parts_of : Planned → List ℕ × List Grant
+parts_of planned = (planned.argdata, planned.grants)
 
 -- the argument data, unless there is too much of it
 abbrev pub unless_large : List ℕ → List Grant → Result (List ℕ × List Grant) PlanFault

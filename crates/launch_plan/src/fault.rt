@@ -1,5 +1,8 @@
 //! Why a document is no plan.
+ghost use Rattle.std.specs.Prelude.{◌≡◌};
+ghost use Rattle.lists.specs.declared.stop.Stop.TheVariants.{At};
 
+use lists::Stop;
 use thiserror::Error;
 
 /// Why a document is no plan of a launch. Lines are counted from 1.
@@ -26,7 +29,12 @@ pub enum PlanFault {
     /// The argument data has more than 65,536 bytes.
     #[error("too large")]
     TooLarge,
-    /// There is no memory.
-    #[error("no memory")]
-    NoMemory,
+}
+
+impl From<PlanFault> for Stop<PlanFault> {
+    ghost from_gives = { λ fault stop. stop ≡ At fault };
+
+    fn from(fault: PlanFault) -> Stop<PlanFault> {
+        Stop::At(fault)
+    }
 }

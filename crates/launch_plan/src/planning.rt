@@ -6,7 +6,8 @@ ghost use Rattle.launch_values.specs.Views.{shape_of};
 ghost use Rattle.tree_model.specs.Grants.{AreGrants};
 ghost use Rattle.launch_plan.specs.Tagged.{tagged};
 ghost use Rattle.launch_plan.specs.Values.{value_of};
-ghost use Rattle.launch_plan.specs.Answers.{Adds, Plans};
+ghost use Rattle.launch_plan.specs.Plan.{parts_of, plan_of};
+ghost use Rattle.lists.specs.Results.{Gives};
 
 use crate::arguments::argument;
 use crate::fault::PlanFault;
@@ -16,7 +17,7 @@ use abi_base::{GrantList, MOST_ARGDATA, MOST_DESCRIPTORS};
 use argdata_codec::encode;
 use file_tree::Tree;
 use launch_yaml::{Doc, Node};
-use lists::Bytes;
+use lists::{Bytes, Stop};
 use std::alloc::{AllocError, Global};
 
 /// What a launch gives a program.
@@ -31,9 +32,9 @@ pub struct Planned {
 /// The plan that a document is, where a launch begins with this file tree, or its first fault: in the order of the
 /// document, then too many descriptors, then too much argument data.
 #[tactic(auto, unfolding(crate::specs::Plan::plan_of))]
-pub fn plan(alloc: Global, doc: &Doc, tree: &Tree) -> Result<Planned, PlanFault>
+pub fn plan(alloc: Global, doc: &Doc, tree: &Tree) -> Result<Planned, Stop<PlanFault>>
     requires { IsDocument (shape_of doc.now.root) }
-    ensures plan { Plans result tree.now (shape_of doc.now.root) }
+    ensures plan { Gives parts_of result (plan_of tree.now (shape_of doc.now.root)) }
     // What a launch may give.
     ensures grants { IfOk result (λ planned. AreGrants tree.now planned.grants) }
     ensures small { IfOk result (λ planned. length planned.argdata ≤ MOST_ARGDATA) }
@@ -41,17 +42,15 @@ pub fn plan(alloc: Global, doc: &Doc, tree: &Tree) -> Result<Planned, PlanFault>
     let mut grants = GrantList::new(alloc);
     push_grants(&mut grants, tree, &doc.root)?;
     if grants.len() > MOST_DESCRIPTORS {
-        return Err(PlanFault::TooMany);
+        return Err(Stop::At(PlanFault::TooMany));
     }
     // Argument data that is much too large isn't made.
     if room_behind(MOST_ARGDATA, &doc.root).is_none() {
-        return Err(PlanFault::TooLarge);
+        return Err(Stop::At(PlanFault::TooLarge));
     }
-    let Ok(argdata) = argdata(alloc, &doc.root) else {
-        return Err(PlanFault::NoMemory);
-    };
+    let argdata = argdata(alloc, &doc.root)?;
     if argdata.len() > MOST_ARGDATA {
-        return Err(PlanFault::TooLarge);
+        return Err(Stop::At(PlanFault::TooLarge));
     }
     Ok(Planned { argdata, grants })
 }

@@ -2,14 +2,15 @@
 ghost use Rattle.std.specs.Prelude.{◌≡◌, [], ◌∷◌, map};
 ghost use Rattle.launch_values.specs.Shape.{of_list, of_pairs};
 ghost use Rattle.launch_values.specs.Views.{shape_of, pair_of, content_of_value};
-ghost use Rattle.launch_plan.specs.Tagged.{stream_of, stream_grant, grant_of, tagged, tagged_in, tagged_in_items, tagged_in_pairs};
-ghost use Rattle.launch_plan.specs.Answers.{Adds};
+ghost use Rattle.launch_plan.specs.Tagged.{stream_of, stream_grant, grant_of, grants_behind, tagged, tagged_in, tagged_in_items, tagged_in_pairs};
+ghost use Rattle.lists.specs.Results.{Gives};
 
 use crate::fault::PlanFault;
 use crate::files::file_grant;
 use abi_base::{Grant, GrantList, GrantTarget, Rights};
 use file_tree::Tree;
 use launch_values::{Node, NodeTag, NodeValue};
+use lists::Stop;
 
 // The rights of standard input, and those of standard output and standard error.
 const READING: Rights = Rights(0x1008_000a);
@@ -62,8 +63,8 @@ fn push_grant(
     line: u32,
     name: &NodeTag,
     value: &NodeValue,
-) -> Result<(), PlanFault>
-    ensures { Adds tree.now result grants.old grants.new (record { line = line; name = name.now; value = content_of_value value.now } ∷ []) }
+) -> Result<(), Stop<PlanFault>>
+    ensures { Gives (λ done. grants.new) result (grants_behind tree.now grants.old (record { line = line; name = name.now; value = content_of_value value.now } ∷ [])) }
 {
     let Grant {
         target,
@@ -76,14 +77,14 @@ fn push_grant(
         inheriting,
     }) {
         Ok(()) => Ok(()),
-        Err(_) => Err(PlanFault::NoMemory),
+        Err(_) => Err(Stop::Memory),
     }
 }
 
 /// Puts the descriptors that a node and those in it ask for behind the others, in document order.
 #[cycle(tagged)]
-pub fn push_grants(grants: &mut GrantList, tree: &Tree, node: &Node) -> Result<(), PlanFault>
-    ensures { Adds tree.now result grants.old grants.new (tagged (shape_of node.now)) }
+pub fn push_grants(grants: &mut GrantList, tree: &Tree, node: &Node) -> Result<(), Stop<PlanFault>>
+    ensures { Gives (λ done. grants.new) result (grants_behind tree.now grants.old (tagged (shape_of node.now))) }
 {
     match &node.tag {
         Some(name) => push_grant(grants, tree, node.line, name, &node.value),
@@ -92,8 +93,12 @@ pub fn push_grants(grants: &mut GrantList, tree: &Tree, node: &Node) -> Result<(
 }
 
 #[cycle(tagged)]
-fn push_inside(grants: &mut GrantList, tree: &Tree, value: &NodeValue) -> Result<(), PlanFault>
-    ensures { Adds tree.now result grants.old grants.new (tagged_in (content_of_value value.now)) }
+fn push_inside(
+    grants: &mut GrantList,
+    tree: &Tree,
+    value: &NodeValue,
+) -> Result<(), Stop<PlanFault>>
+    ensures { Gives (λ done. grants.new) result (grants_behind tree.now grants.old (tagged_in (content_of_value value.now))) }
 {
     match value {
         NodeValue::Map(pairs) => push_of_pairs(grants, tree, pairs.as_slice()),
@@ -103,8 +108,8 @@ fn push_inside(grants: &mut GrantList, tree: &Tree, value: &NodeValue) -> Result
 }
 
 #[cycle(tagged)]
-fn push_of_items(grants: &mut GrantList, tree: &Tree, items: &[Node]) -> Result<(), PlanFault>
-    ensures { Adds tree.now result grants.old grants.new (tagged_in_items (of_list (map shape_of items.now))) }
+fn push_of_items(grants: &mut GrantList, tree: &Tree, items: &[Node]) -> Result<(), Stop<PlanFault>>
+    ensures { Gives (λ done. grants.new) result (grants_behind tree.now grants.old (tagged_in_items (of_list (map shape_of items.now)))) }
 {
     for item in items {
         push_grants(grants, tree, item)?;
@@ -117,8 +122,8 @@ fn push_of_pairs(
     grants: &mut GrantList,
     tree: &Tree,
     pairs: &[(Node, Node)],
-) -> Result<(), PlanFault>
-    ensures { Adds tree.now result grants.old grants.new (tagged_in_pairs (of_pairs (map pair_of pairs.now))) }
+) -> Result<(), Stop<PlanFault>>
+    ensures { Gives (λ done. grants.new) result (grants_behind tree.now grants.old (tagged_in_pairs (of_pairs (map pair_of pairs.now)))) }
 {
     for (key, value) in pairs {
         push_grants(grants, tree, key)?;

@@ -41,7 +41,6 @@ fault_name fault.FloatAbi = codes "FloatAbi"
 fault_name (fault.Segment header) = codes "Segment "
 fault_name (fault.Overlap header) = codes "Overlap "
 fault_name fault.Entry = codes "Entry"
-fault_name fault.NoMemory = codes "NoMemory"
 
 -- the number of the program header that is at fault, for a fault that is of one
 abbrev pub fault_number : ElfFault → List ℕ
@@ -84,7 +83,7 @@ line_number None = []
 line_number (Some line) = decimal line
 
 abbrev pub launch_ending : LaunchFault → List ℕ
-launch_ending (Yaml line kind) = kind_ending kind
+launch_ending (Yaml fault) = kind_ending fault.kind
 launch_ending (Plan (plans.UnknownTag line)) = ended (codes ": UnknownTag")
 launch_ending (Plan (plans.BadFd line)) = ended (codes ": BadFd")
 launch_ending (Plan (plans.BadFile line)) = ended (codes ": BadFile")
@@ -92,7 +91,6 @@ launch_ending (Plan (plans.UnknownRight line)) = ended (codes ": UnknownRight")
 launch_ending (Plan (plans.NoSuchPath line)) = ended (codes ": NoSuchPath")
 launch_ending (Plan plans.TooMany) = ended (codes "too many")
 launch_ending (Plan plans.TooLarge) = ended (codes "too large")
-launch_ending (Plan plans.NoMemory) = ended (codes "no memory")
 
 -- the launch text has this fault
 abbrev pub launch_line : LaunchFault → List ℕ

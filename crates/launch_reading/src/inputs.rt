@@ -12,10 +12,10 @@ use crate::launch_text::plan_text;
 use crate::refusal::LaunchRefusal;
 use abi_types::Times;
 use command_line::LaunchSettings;
-use elf_image::{ElfFault, read_elf};
+use elf_image::read_elf;
 use input_output::{ReadFault, Source, read_whole};
 use launch_plan::Planned;
-use lists::Bytes;
+use lists::{Bytes, Stop};
 use run_types::{Constants, Launch};
 use std::alloc::{AllocError, Global};
 use tree_document::{TreeDocFault, read_tree};
@@ -63,9 +63,9 @@ fn read_input<'a, S: Source>(
 {
     match read_whole(alloc, source, name) {
         Ok(bytes) => Ok(bytes),
-        Err(ReadFault::Failed) => Err(LaunchRefusal::Input(name)),
-        Err(ReadFault::TooLong) => Err(LaunchRefusal::TooLong(name)),
-        Err(ReadFault::NoMemory) => Err(LaunchRefusal::Memory),
+        Err(Stop::At(ReadFault::Failed)) => Err(LaunchRefusal::Input(name)),
+        Err(Stop::At(ReadFault::TooLong)) => Err(LaunchRefusal::TooLong(name)),
+        Err(Stop::Memory) => Err(LaunchRefusal::Memory),
     }
 }
 
@@ -137,13 +137,13 @@ fn launch_from<'a>(
 {
     let elf = match read_elf(alloc, inputs.program.as_slice()) {
         Ok(elf) => elf,
-        Err(ElfFault::NoMemory) => return Err(LaunchRefusal::Memory),
-        Err(fault) => return Err(LaunchRefusal::Program(fault)),
+        Err(Stop::At(fault)) => return Err(LaunchRefusal::Program(fault)),
+        Err(Stop::Memory) => return Err(LaunchRefusal::Memory),
     };
     let tree = match read_tree(alloc, inputs.tree.as_slice(), times_of(settings)) {
         Ok(tree) => tree,
-        Err(TreeDocFault::At { byte }) => return Err(LaunchRefusal::Tree(byte)),
-        Err(TreeDocFault::NoMemory) => return Err(LaunchRefusal::Memory),
+        Err(Stop::At(TreeDocFault { byte })) => return Err(LaunchRefusal::Tree(byte)),
+        Err(Stop::Memory) => return Err(LaunchRefusal::Memory),
     };
     match plan_text(alloc, inputs.text.as_slice(), &tree) {
         Ok(Planned { argdata, grants }) => Ok(Launch {
@@ -158,8 +158,8 @@ fn launch_from<'a>(
             },
             turns: settings.turns,
         }),
-        Err(Some(fault)) => Err(LaunchRefusal::LaunchText(fault)),
-        Err(None) => Err(LaunchRefusal::Memory),
+        Err(Stop::At(fault)) => Err(LaunchRefusal::LaunchText(fault)),
+        Err(Stop::Memory) => Err(LaunchRefusal::Memory),
     }
 }
 

@@ -1,21 +1,23 @@
 //! What a launch text gives a program.
-ghost use Rattle.std.specs.Prelude.{◌≡◌, IfOk, IfErr, Ok};
+ghost use Rattle.std.specs.Prelude.{◌≡◌};
 ghost use Rattle.launch_values.specs.Documents.{IsDocument};
 ghost use Rattle.launch_values.specs.Views.{shape_of};
-ghost use Rattle.launch_plan.specs.Plan.{plan_of};
-ghost use Rattle.launch_reading.specs.LaunchText.{with_plan, planned_text, IsTextFault, of_file, of_plan, line_of_fault};
+ghost use Rattle.launch_plan.specs.Plan.{parts_of, plan_of};
+ghost use Rattle.launch_reading.specs.LaunchText.{with_plan, planned_text, of_file, of_plan, line_of_fault};
+ghost use Rattle.lists.specs.Results.{Gives};
 
 use file_tree::Tree;
 use launch_plan::{PlanFault, Planned, plan};
-use launch_yaml::{Doc, YamlFault, YamlKind, parse};
+use launch_yaml::{Doc, Fault, parse};
+use lists::Stop;
 use std::alloc::Global;
 
 /// Why a launch text gives no plan.
 #[derive(Clone, Copy, Drop)]
 pub enum LaunchFault {
-    /// It is no launch file: the line of its first fault, from 1, and what is wrong there.
-    Yaml(u32, YamlKind),
-    /// It is a launch file that is no plan. The fault isn't `NoMemory`.
+    /// It is no launch file: its first fault.
+    Yaml(Fault),
+    /// It is a launch file that is no plan.
     Plan(PlanFault),
 }
 
@@ -25,7 +27,7 @@ impl LaunchFault {
         ensures { result ≡ line_of_fault self.now }
     {
         match self {
-            LaunchFault::Yaml(line, _) => Some(*line),
+            LaunchFault::Yaml(fault) => Some(fault.line),
             LaunchFault::Plan(
                 PlanFault::UnknownTag(line)
                 | PlanFault::BadFd(line)
@@ -38,52 +40,43 @@ impl LaunchFault {
     }
 }
 
-// A fault of a launch file; nothing, where memory ran out.
-fn of_file(fault: YamlFault) -> Option<LaunchFault>
-    ensures { result ≡ of_file fault }
+// Why a text is no launch file, for a reader of launch texts.
+fn of_file(stop: Stop<Fault>) -> Stop<LaunchFault>
+    ensures { result ≡ of_file stop }
 {
-    match fault {
-        YamlFault::At { line, kind } => Some(LaunchFault::Yaml(line, kind)),
-        YamlFault::NoMemory => None,
+    match stop {
+        Stop::At(fault) => Stop::At(LaunchFault::Yaml(fault)),
+        Stop::Memory => Stop::Memory,
     }
 }
 
-// A fault of a plan; nothing, where memory ran out.
-fn of_plan(fault: PlanFault) -> Option<LaunchFault>
-    ensures { result ≡ of_plan fault }
+// Why a document is no plan, for a reader of launch texts.
+fn of_plan(stop: Stop<PlanFault>) -> Stop<LaunchFault>
+    ensures { result ≡ of_plan stop }
 {
-    match fault {
-        PlanFault::UnknownTag(_) => Some(LaunchFault::Plan(fault)),
-        PlanFault::BadFd(_) => Some(LaunchFault::Plan(fault)),
-        PlanFault::BadFile(_) => Some(LaunchFault::Plan(fault)),
-        PlanFault::UnknownRight(_) => Some(LaunchFault::Plan(fault)),
-        PlanFault::NoSuchPath(_) => Some(LaunchFault::Plan(fault)),
-        PlanFault::TooMany => Some(LaunchFault::Plan(fault)),
-        PlanFault::TooLarge => Some(LaunchFault::Plan(fault)),
-        PlanFault::NoMemory => None,
+    match stop {
+        Stop::At(fault) => Stop::At(LaunchFault::Plan(fault)),
+        Stop::Memory => Stop::Memory,
     }
 }
 
 // The argument data and the descriptors that a document gives.
-fn plan_document(alloc: Global, doc: &Doc, tree: &Tree) -> Result<Planned, Option<LaunchFault>>
+fn plan_document(alloc: Global, doc: &Doc, tree: &Tree) -> Result<Planned, Stop<LaunchFault>>
     requires { IsDocument (shape_of doc.now.root) }
-    ensures ok { IfOk result (λ planned. with_plan (plan_of tree.now (shape_of doc.now.root)) ≡ Ok (planned.argdata, planned.grants)) }
-    ensures err { IfErr result (IsTextFault (with_plan (plan_of tree.now (shape_of doc.now.root)))) }
+    ensures { Gives parts_of result (with_plan (plan_of tree.now (shape_of doc.now.root))) }
 {
     match plan(alloc, doc, tree) {
         Ok(planned) => Ok(planned),
-        Err(fault) => Err(of_plan(fault)),
+        Err(stop) => Err(of_plan(stop)),
     }
 }
 
-/// The argument data and the descriptors that a launch text gives where there is this file tree. Its fault is `None` where memory
-/// ran out.
-pub fn plan_text(alloc: Global, text: &[u8], tree: &Tree) -> Result<Planned, Option<LaunchFault>>
-    ensures ok { IfOk result (λ planned. planned_text tree.now text.now ≡ Ok (planned.argdata, planned.grants)) }
-    ensures err { IfErr result (IsTextFault (planned_text tree.now text.now)) }
+/// The argument data and the descriptors that a launch text gives where there is this file tree.
+pub fn plan_text(alloc: Global, text: &[u8], tree: &Tree) -> Result<Planned, Stop<LaunchFault>>
+    ensures { Gives parts_of result (planned_text tree.now text.now) }
 {
     match parse(alloc, text) {
         Ok(doc) => plan_document(alloc, &doc, tree),
-        Err(fault) => Err(of_file(fault)),
+        Err(stop) => Err(of_file(stop)),
     }
 }

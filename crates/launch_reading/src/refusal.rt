@@ -28,7 +28,6 @@ fn fault_name(fault: ElfFault) -> &'static str
         ElfFault::Segment(_) => "Segment ",
         ElfFault::Overlap(_) => "Overlap ",
         ElfFault::Entry => "Entry",
-        ElfFault::NoMemory => "NoMemory",
     }
 }
 
@@ -71,7 +70,7 @@ fn launch_ending(fault: LaunchFault) -> &'static str
     ensures { result.now ≡ launch_ending fault }
 {
     match fault {
-        LaunchFault::Yaml(_, kind) => kind_ending(kind),
+        LaunchFault::Yaml(fault) => kind_ending(fault.kind),
         LaunchFault::Plan(PlanFault::UnknownTag(_)) => ": UnknownTag\n",
         LaunchFault::Plan(PlanFault::BadFd(_)) => ": BadFd\n",
         LaunchFault::Plan(PlanFault::BadFile(_)) => ": BadFile\n",
@@ -79,7 +78,6 @@ fn launch_ending(fault: LaunchFault) -> &'static str
         LaunchFault::Plan(PlanFault::NoSuchPath(_)) => ": NoSuchPath\n",
         LaunchFault::Plan(PlanFault::TooMany) => "too many\n",
         LaunchFault::Plan(PlanFault::TooLarge) => "too large\n",
-        LaunchFault::Plan(PlanFault::NoMemory) => "no memory\n",
     }
 }
 
@@ -92,7 +90,7 @@ pub enum LaunchRefusal<'a> {
     Input(&'a str),
     /// The input of this name has more bytes than an input may have.
     TooLong(&'a str),
-    /// The program's file has this fault. It isn't `NoMemory`.
+    /// The program's file has this fault.
     Program(ElfFault),
     /// The first faulty record of the tree document begins at this byte.
     Tree(u64),

@@ -17,6 +17,7 @@ use command_line::{CommandLineFault, LaunchSettings, read_words};
 use input_output::{Sink, Source};
 use kernel_cell::Record;
 use launch_reading::{LaunchRefusal, read_launch};
+use lists::Stop;
 use process_cell::{Driven, Gate, drive};
 use run_types::Launch;
 use std::alloc::Global;
@@ -174,8 +175,8 @@ fn launch_and_run<'a, S: Source, K: Sink, G: Gate + Sync, R: Threads + Wait + Sy
             let shown = Shown::Report { lines };
             run_settings(rt, alloc, &settings, shown, gate, source, sink)
         }
-        Err(CommandLineFault::Refused) => refused(LaunchRefusal::Words, sink),
-        Err(CommandLineFault::NoMemory) => refused(LaunchRefusal::Memory, sink),
+        Err(Stop::At(CommandLineFault)) => refused(LaunchRefusal::Words, sink),
+        Err(Stop::Memory) => refused(LaunchRefusal::Memory, sink),
     }
 }
 

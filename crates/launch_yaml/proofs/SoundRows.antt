@@ -14,10 +14,9 @@ use Rattle.launch_values.specs.Documents.{AreSoundItems, AreSoundPairs, IsDocume
 use Rattle.launch_values.proofs.SoundValues.{IsWithin, IsNodeWithin, ValueRead, line_within, scalar_within}
 use Rattle.launch_values.specs.Views.{shape_of}
 use Rattle.launch_yaml.specs.declared.document.Doc.{Doc}
-use Rattle.launch_yaml.specs.declared.document.YamlFault.{YamlFault}
-use Rattle.launch_yaml.specs.Parsing.{Parses}
 use Rattle.launch_lines.specs.declared.fault.Fault.{Fault}
-use Rattle.lists.specs.Results.{◌>>=◌}
+use Rattle.lists.specs.Results.{◌>>=◌, Gives}
+use Rattle.lists.specs.declared.stop.Stop.{Stop}
 use Rattle.lists.proofs.Steps.{on_both, on_bind, on_any}
 use Rattle.launch_lines.specs.Faults.{unless, beside}
 use Rattle.launch_lines.specs.Rows.{Row, rows_from, is_dash, begins_key, behind_key, after_key, at_row, in_row}
@@ -220,6 +219,6 @@ pub parsed_is_document : (text : List ℕ) → IfOk (parse_at text) IsDocument
 unfolding parse_at
 parsed_is_document text = on_beside (plain_fault (lines text)) (document_of (rows_from 1 (lines text))) (document_within (rows_from 1 (lines text)))
 
-pub is_document : (answer : Result Doc YamlFault) (text : List ℕ) → Parses answer (parse_at text) → IfOk answer (λ doc. IsDocument (shape_of doc.root))
+pub is_document : (answer : Result Doc (Stop Fault)) (text : List ℕ) → Gives (λ (doc : Doc). shape_of doc.root) answer (parse_at text) → IfOk answer (λ doc. IsDocument (shape_of doc.root))
 is_document (Ok doc) text e = subst (λ (r : Result Shape Fault). IfOk r IsDocument) e (parsed_is_document text)
-is_document (Err fault) text e = tt
+is_document (Err stop) text e = tt

@@ -1,6 +1,5 @@
 pub mod Entries
 pub mod Blocks
 pub mod Document
-pub mod Parsing
 pub mod TaggingViews
 pub mod Renumbering

@@ -12,7 +12,6 @@ ghost use Rattle.launch_yaml.specs.Entries.{after_while};
 ghost use Rattle.lists.specs.Results.{Gives};
 ghost use Rattle.launch_lines.specs.Views.{row, rows, IsWithin, AllWithin};
 ghost use Rattle.launch_yaml.specs.Document.{is_inside, first_column, end_at, after_document, root_of, body_of, after_directive, after_head, document_of, parse_at};
-ghost use Rattle.launch_yaml.specs.Parsing.{Parses};
 
 use crate::blocks;
 use launch_lines::fault::Fault;
@@ -25,29 +24,12 @@ use launch_scalars::spaces::after_gap;
 use launch_values::{Node, NodeValue};
 use lists::Stop;
 use std::alloc::Global;
-use thiserror::Error;
 
 /// A launch file as a document.
 #[derive(Drop)]
 pub struct Doc {
     /// Its value. An empty document is a null on line 1.
     pub root: Node,
-}
-
-/// Why a text is no launch file.
-#[derive(Clone, Copy, Debug, Drop, PartialEq, Eq, Error)]
-pub enum YamlFault {
-    /// The first fault of the text.
-    #[error("line {line}: {kind:?}")]
-    At {
-        /// The number of its line, from 1.
-        line: u32,
-        /// What is wrong.
-        kind: YamlKind,
-    },
-    /// There is no memory, or the text has 2^32 bytes or more.
-    #[error("no memory")]
-    NoMemory,
 }
 
 // So many maps and sequences may stand inside each other.
@@ -251,41 +233,30 @@ fn document(alloc: Global, text: &[u8], lines: &[Line]) -> Result<Node, Stop<Fau
 }
 
 // What was read, unless there is a fault beside it: then the first one.
-fn beside(fault: Option<Fault>, read: Result<Node, Stop<Fault>>) -> Result<Doc, YamlFault>
-    ensures { (y : Result Shape Fault) → Gives shape_of read y → Parses result (beside fault y) }
+fn beside(fault: Option<Fault>, read: Result<Node, Stop<Fault>>) -> Result<Doc, Stop<Fault>>
+    ensures { (y : Result Shape Fault) → Gives shape_of read y → Gives (λ doc. shape_of doc.root) result (beside fault y) }
 {
-    let first = match read {
-        Ok(root) => match fault {
-            None => return Ok(Doc { root }),
-            Some(fault) => fault,
-        },
-        Err(Stop::Memory) => return Err(YamlFault::NoMemory),
-        Err(Stop::At(other)) => match fault {
-            None => other,
-            Some(fault) => first_of(fault, other),
-        },
-    };
-    Err(YamlFault::At {
-        line: first.line,
-        kind: first.kind,
-    })
+    match (read, fault) {
+        (Ok(root), None) => Ok(Doc { root }),
+        (Ok(_), Some(fault)) => Err(Stop::At(fault)),
+        (Err(Stop::At(other)), Some(fault)) => Err(Stop::At(first_of(fault, other))),
+        (Err(stop), _) => Err(stop),
+    }
 }
 
 #[tactic(auto, unfolding(crate::specs::Document::parse_at, launch_lines::specs::Lines::lines))]
-fn read(alloc: Global, text: &[u8]) -> Result<Doc, YamlFault>
-    ensures { Parses result (parse_at text.now) }
+fn read(alloc: Global, text: &[u8]) -> Result<Doc, Stop<Fault>>
+    ensures { Gives (λ doc. shape_of doc.root) result (parse_at text.now) }
 {
     let text = lines::without_mark(text);
-    let Ok(rows) = lines::rows(alloc, text) else {
-        return Err(YamlFault::NoMemory);
-    };
+    let rows = lines::rows(alloc, text)?;
     let fault = lines::plain_fault(text);
     beside(fault, document(alloc, text, rows.as_slice()))
 }
 
-/// The document that a text is, or its first fault.
-pub fn parse(alloc: Global, text: &[u8]) -> Result<Doc, YamlFault>
-    ensures exact { Parses result (parse_at text.now) }
+/// The document that a text is, or its first fault. A text of 2^32 bytes or more comes to lack of memory.
+pub fn parse(alloc: Global, text: &[u8]) -> Result<Doc, Stop<Fault>>
+    ensures exact { Gives (λ doc. shape_of doc.root) result (parse_at text.now) }
     // At most 64 maps and sequences stand inside each other, integers are in range, and no text has a zero byte.
     ensures document { IfOk result (λ doc. IsDocument (shape_of doc.root)) }
 {

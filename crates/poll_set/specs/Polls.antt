@@ -1,16 +1,18 @@
 -- What a poll comes to, and until when it waits, by what it looks at of a state: the moment, the opens, the channels, and how processes
 -- stand.
-use Rattle.std.specs.Prelude.{ℕ, Bool, true, false, List, [], ◌∷◌, Option, Some, None}
+use Rattle.std.specs.Prelude.{◌≡◌, ℕ, Bool, true, false, List, [], ◌∷◌, Option, Some, None}
 use Rattle.std.specs.Ordering.{nat_cmp}
 use Rattle.std.specs.FinMap.{FinMap, get}
 use Rattle.abi_structures.specs.declared.events.Event.{Event}
 use Rattle.abi_structures.specs.declared.events.Subscription.{Subscription}
+use Rattle.abi_types.specs.declared.call.Call.{Call}
+use Rattle.abi_types.specs.declared.call.Call.TheVariants.{Poll}
 use Rattle.abi_types.specs.declared.constants.Constants.{Constants}
 use Rattle.abi_types.specs.declared.open_kind.OpenKind.{OpenKind}
 use Rattle.abi_types.specs.declared.status.Status.{Status}
 use Rattle.kernel_model.specs.Channels.{Channel}
 use Rattle.kernel_model.specs.Deadlines.{soon}
-use Rattle.kernel_model.specs.Families.Polls.{events_now, has_no_reader, has_no_writer, poll, told_or_waits}
+use Rattle.kernel_model.specs.Families.Polls.{events_now, has_no_reader, has_no_writer, is_of_lock, poll, told_or_waits}
 use Rattle.kernel_model.specs.Outcome.{Outcome}
 use Rattle.kernel_model.specs.State.{Table, no_state}
 use Rattle.kernel_model.specs.View.{View, whole}
@@ -43,7 +45,6 @@ abbrev pub is_unwritten : FinMap nat_cmp Channel → Option ℕ → Bool
 is_unwritten channels None = false
 is_unwritten channels (Some c) = has_no_writer (get channels c)
 
--- the first subscription, if there is one
-abbrev pub first_of : List Subscription → Option Subscription
-first_of [] = None
-first_of (first ∷ rest) = Some first
+-- the call is a poll that begins with this subscription, which is of a lock or a condition variable
+abbrev pub BeginsWith : Subscription → Call → Type 0
+BeginsWith first call = (rest : List Subscription) × (call ≡ Poll (first ∷ rest)) × (is_of_lock first.what ≡ true)

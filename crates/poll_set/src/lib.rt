@@ -7,7 +7,7 @@ pub use clocks::{is_due, poll_deadline, soon, sooner};
 pub use events::event_of;
 pub use notes::note_poll;
 pub use polls::{poll, poll_waits};
-pub use subscriptions::{begins_with_lock, lock_awaited};
+pub use subscriptions::lock_subscription;
 pub use surroundings::Surroundings;
 
 mod clocks;

@@ -1,45 +1,30 @@
 //! What one subscription of a poll is told.
 ghost use Rattle.std.specs.Prelude.{◌≡◌, is_some, IfSome, Some};
+ghost use Rattle.kernel_model.specs.Calls.{meaning_of};
 ghost use Rattle.kernel_model.specs.Families.Polls as model;
-ghost use Rattle.poll_set.specs.Polls.{first_of, sight};
+ghost use Rattle.poll_set.specs.Polls.{sight, BeginsWith};
 
 use crate::clocks::has_come;
 use crate::ends::{read_event, write_event};
 use crate::events::{end_event, event_of};
 use crate::surroundings::{Surroundings, open_at};
-use abi_types::{Event, EventType, OpenKind, Subscription, What};
+use abi_types::{Call, Event, EventType, OpenKind, Subscription, What};
 use fd_table::FdTable;
 
-// Whether a lock or a condition variable is waited for.
-fn is_of_lock(what: &What) -> bool
-    ensures { result ≡ model.is_of_lock what.now }
+/// The first subscription of a poll, where it is of a lock or a condition variable. A thread goes on from such a poll by how far its wait has
+/// come.
+#[tactic(auto, using(crate::proofs::PollReads::poll_by_stage))]
+pub fn lock_subscription(call: &Call) -> Option<&Subscription>
+    ensures first { IfSome result (λ first. BeginsWith first.now call.now) }
+    ensures value { is_some result ≡ (meaning_of call.now).by_stage }
 {
-    matches!(
-        what,
-        What::Condvar { .. } | What::LockRdlock { .. } | What::LockWrlock { .. }
-    )
-}
-
-/// Whether the first subscription is of a lock or a condition variable.
-pub fn begins_with_lock(subscriptions: &[Subscription]) -> bool
-    ensures { result ≡ model.begins_with_lock subscriptions.now }
-{
-    match subscriptions.first() {
-        Some(first) => is_of_lock(&first.what),
-        None => false,
-    }
-}
-
-/// The first subscription, where it is of a lock or a condition variable.
-pub fn lock_awaited(subscriptions: &[Subscription]) -> Option<&Subscription>
-    ensures first { IfSome result (λ first. Some first.now ≡ first_of subscriptions.now) }
-    ensures value { is_some result ≡ model.begins_with_lock subscriptions.now }
-{
-    let first = subscriptions.first()?;
-    if is_of_lock(&first.what) {
-        Some(first)
-    } else {
-        None
+    let Call::Poll { subscriptions } = call else {
+        return None;
+    };
+    let first = subscriptions.as_slice().first()?;
+    match first.what {
+        What::Condvar { .. } | What::LockRdlock { .. } | What::LockWrlock { .. } => Some(first),
+        _ => None,
     }
 }
 

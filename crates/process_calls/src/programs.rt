@@ -12,10 +12,11 @@ ghost use Rattle.process_calls.specs.Programs.{node_of_file};
 ghost use Rattle.tree_model.specs.Changes.{bytes_of};
 
 use abi_types::OpenKind;
-use elf_image::{ElfFault, read_elf};
+use elf_image::read_elf;
 use fd_table::FdTable;
 use file_tree::Tree;
 use kernel_parts::{hold_all, let_go_all};
+use lists::Stop;
 use object_store::Objects;
 use std::alloc::{AllocError, Global};
 
@@ -36,8 +37,8 @@ pub fn check_program(alloc: Global, bytes: &[u8]) -> Result<bool, AllocError>
 {
     match read_elf(alloc, bytes) {
         Ok(_) => Ok(true),
-        Err(ElfFault::NoMemory) => Err(AllocError),
-        Err(_) => Ok(false),
+        Err(Stop::At(_)) => Ok(false),
+        Err(Stop::Memory) => Err(AllocError),
     }
 }
 

@@ -3,6 +3,7 @@ ghost use Rattle.argdata_codec.specs.Encoding.{CanBeEncoded};
 ghost use Rattle.argdata_codec.specs.Views.{shape_of};
 
 use argdata_codec::{ArgFault, Value, decode, encode};
+use lists::Stop;
 use std::alloc::Global;
 use std::test::Fail;
 
@@ -184,9 +185,8 @@ const FAULTS: &[(&[u8], usize)] = &[
 #[test]
 fn faults(rt: HostRuntime) {
     for (bytes, at) in FAULTS {
-        assert_eq!(rt;
-            decode(rt.alloc(), bytes).err(),
-            Some(ArgFault::BadArgdata { at: *at }),
+        assert!(rt;
+            matches!(decode(rt.alloc(), bytes), Err(Stop::At(ArgFault { at: found })) if found == *at),
             "{bytes:?}"
         );
     }

@@ -6,6 +6,7 @@ use input_output::{
     Failed, MemSink, MemSource, ReadFault, Sink, Source, SteadySink, SteadySource, read_whole,
     write_whole,
 };
+use lists::Stop;
 use std::alloc::{AllocError, Global};
 use std::test::Fail;
 
@@ -69,18 +70,30 @@ impl Source for Silent {
     }
 }
 
-// How many bytes were read.
-fn read_length<S: Source>(alloc: Global, source: &mut S, name: &str) -> Result<usize, ReadFault>
+// How many bytes were read, or the fault; nothing where memory ran out.
+fn read_length<S: Source>(
+    alloc: Global,
+    source: &mut S,
+    name: &str,
+) -> Option<Result<usize, ReadFault>>
     requires { S.may_read source.old name.now }
 {
-    Ok(read_whole(alloc, source, name)?.len())
+    match read_whole(alloc, source, name) {
+        Ok(bytes) => Some(Ok(bytes.len())),
+        Err(Stop::At(fault)) => Some(Err(fault)),
+        Err(Stop::Memory) => None,
+    }
 }
 
 #[test]
 fn reads_whole_inputs(rt: HostRuntime) -> Result<(), Fail> {
     let mut source = failing_source(rt.alloc())?;
     for (name, want) in READS {
-        assert_eq!(rt; read_length(rt.alloc(), &mut source, name), *want, "{name}");
+        assert_eq!(rt;
+            read_length(rt.alloc(), &mut source, name),
+            Some(*want),
+            "{name}"
+        );
     }
     Ok(())
 }
@@ -89,7 +102,11 @@ fn reads_whole_inputs(rt: HostRuntime) -> Result<(), Fail> {
 fn reads_steadily(rt: HostRuntime) -> Result<(), Fail> {
     let mut source = steady_source(rt.alloc())?;
     for (name, want) in STEADY_READS {
-        assert_eq!(rt; read_length(rt.alloc(), &mut source, name), *want, "{name}");
+        assert_eq!(rt;
+            read_length(rt.alloc(), &mut source, name),
+            Some(*want),
+            "{name}"
+        );
     }
     Ok(())
 }
@@ -100,7 +117,7 @@ fn limits_inputs(rt: HostRuntime) {
         let mut source = Silent { left: *left };
         assert_eq!(rt;
             read_length(rt.alloc(), &mut source, "any"),
-            *want,
+            Some(*want),
             "{left}"
         );
     }

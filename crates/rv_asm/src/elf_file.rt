@@ -82,6 +82,7 @@ fn push_program_header(out: &mut Vec<u8>, address: u64, file_size: u64) -> Resul
     out.extend_from_slice(&address.to_le_bytes())?;
     out.extend_from_slice(&file_size.to_le_bytes())?;
     out.extend_from_slice(&memory_size.to_le_bytes())?;
+    // p_align: addresses are those of instructions, and so is the offset.
     out.extend_from_slice(&INSTRUCTION_ALIGNMENT.to_le_bytes())
 }
 

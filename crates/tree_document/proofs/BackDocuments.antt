@@ -21,7 +21,8 @@ use Rattle.tree_records.specs.Records.{Record, path_of, encoded}
 use Rattle.tree_document.specs.Building.{Making, node_at, start, with_record}
 use Rattle.tree_document.specs.Documents.{AreAllowed, Means, document, with_records}
 use Rattle.tree_document.specs.declared.fault.TreeDocFault.{TreeDocFault}
-use Rattle.tree_document.specs.declared.fault.TreeDocFault.TheVariants as faults
+use Rattle.lists.specs.declared.stop.Stop.{Stop}
+use Rattle.lists.specs.declared.stop.Stop.TheVariants.{At, Memory}
 use Rattle.tree_document.specs.Meaning.{meaning}
 use Rattle.tree_document.specs.Views.{Gives}
 use Rattle.tree_document.proofs.Computed.{meaning_of}
@@ -237,9 +238,9 @@ module _ (times : Times) (t : Tree) (h : IsTree t) (kept : KeepsLimits t) where
       )
 
   -- so what is read of it is the same tree
-  pub read_back : (read : Result Tree TreeDocFault) → Gives read (meaning times (printed t)) → IsSameOrLacking t read
+  pub read_back : (read : Result Tree (Stop TreeDocFault)) → Gives read (meaning times (printed t)) → IsSameOrLacking t read
   read_back (Ok u) gives =
       let same = meaning_of times (printed t) reads_back.0 reads_back.1 in
       subst (IsSameTree t) (ok_is reads_back.0 u (sym same ∙ gives)) reads_back.2
-  read_back (Err (faults.At byte)) gives = absurd (ok_err reads_back.0 byte (sym (meaning_of times (printed t) reads_back.0 reads_back.1) ∙ gives))
-  read_back (Err faults.NoMemory) gives = refl
+  read_back (Err (At fault)) gives = absurd (ok_err reads_back.0 fault.byte (sym (meaning_of times (printed t) reads_back.0 reads_back.1) ∙ gives))
+  read_back (Err Memory) gives = refl

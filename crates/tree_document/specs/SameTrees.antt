@@ -6,6 +6,8 @@
 use Rattle.std.specs.Prelude.{◌≡◌, ◌↔◌, ℕ, true, Option, None, Some, is_some, Result, Ok, Err}
 use Rattle.std.specs.FinMap.{get}
 use Rattle.lists.specs.Options.{◌>>=◌}
+use Rattle.lists.specs.declared.stop.Stop.{Stop}
+use Rattle.lists.specs.declared.stop.Stop.TheVariants.{Memory}
 use Rattle.abi_types.specs.declared.node.Node.{Node}
 use Rattle.abi_types.specs.declared.node.NodeKind.{NodeKind}
 use Rattle.tree_model.specs.declared.limits.TheConstants.{ROOT}
@@ -13,7 +15,6 @@ use Rattle.tree_model.specs.Changes.{is_file}
 use Rattle.tree_model.specs.Tree.{Tree}
 use Rattle.tree_records.specs.Paths.{Path}
 use Rattle.tree_document.specs.declared.fault.TreeDocFault.{TreeDocFault}
-use Rattle.tree_document.specs.declared.fault.TreeDocFault.TheVariants.{NoMemory}
 use Rattle.tree_document.specs.Building.{node_at}
 
 abbrev pub kind_in : Option Node → Option NodeKind
@@ -41,6 +42,6 @@ pub record IsSameTree (t u : Tree) : Type 0 where
   pub files : (p q : Path) → AreOfOneFile t p q ↔ AreOfOneFile u p q
 
 -- what was read is the same tree, or nothing was read since memory ran out
-abbrev pub IsSameOrLacking : Tree → Result Tree TreeDocFault → Type 0
+abbrev pub IsSameOrLacking : Tree → Result Tree (Stop TreeDocFault) → Type 0
 IsSameOrLacking t (Ok u) = IsSameTree t u
-IsSameOrLacking t (Err fault) = fault ≡ NoMemory
+IsSameOrLacking t (Err stop) = stop ≡ Memory

@@ -8,7 +8,6 @@ use Rattle.tree_records.specs.Paths.{Path}
 use Rattle.tree_records.specs.Reading.{names_in}
 use Rattle.tree_document.specs.declared.building.Building.{Building}
 use Rattle.tree_document.specs.declared.fault.TreeDocFault.{TreeDocFault}
-use Rattle.tree_document.specs.declared.fault.TreeDocFault.TheVariants as faults
 use Rattle.tree_document.specs.Documents.{IsFaultyAt}
 use Rattle.tree_document.specs.Building.{Making}
 
@@ -26,15 +25,15 @@ path_in [] = []
 path_in (b ∷ bs) = names_in (b ∷ bs)
 
 -- the byte of a fault is where the first faulty record begins
-abbrev pub IsFault : Times → List ℕ → TreeDocFault → Type 0
-IsFault times bytes (faults.At byte) = IsFaultyAt times bytes byte
-IsFault times bytes faults.NoMemory = Unit {0}
+abbrev pub IsFault : Times → List ℕ → Stop TreeDocFault → Type 0
+IsFault times bytes (At fault) = IsFaultyAt times bytes fault.byte
+IsFault times bytes Memory = Unit {0}
 
 -- what was read is what the text means, unless memory ran out
-abbrev pub IsFaultOf : TreeDocFault → Result Tree ℕ → Type 0
-IsFaultOf (faults.At byte) meant = meant ≡ Err byte
-IsFaultOf faults.NoMemory meant = Unit {0}
+abbrev pub IsFaultOf : Stop TreeDocFault → Result Tree ℕ → Type 0
+IsFaultOf (At fault) meant = meant ≡ Err fault.byte
+IsFaultOf Memory meant = Unit {0}
 
-abbrev pub Gives : Result Tree TreeDocFault → Result Tree ℕ → Type 0
+abbrev pub Gives : Result Tree (Stop TreeDocFault) → Result Tree ℕ → Type 0
 Gives (Ok t) meant = meant ≡ Ok t
-Gives (Err fault) meant = IsFaultOf fault meant
+Gives (Err stop) meant = IsFaultOf stop meant

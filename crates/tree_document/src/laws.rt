@@ -13,6 +13,7 @@ ghost use Rattle.tree_document.specs.Meaning.{meaning};
 ghost use Rattle.tree_document.specs.Printing.{listing, printed};
 ghost use Rattle.tree_document.specs.SameTrees.{IsSameOrLacking, IsSameTree};
 ghost use Rattle.tree_document.specs.Views.{Gives};
+ghost use Rattle.lists.specs.declared.stop.Stop.{Stop};
 ghost use Rattle.tree_document.specs.declared.fault.TreeDocFault.{TreeDocFault};
 
 /// A text means one tree, or is faulty at one byte, and never both. So what [`crate::read_tree`] returns is the only tree or
@@ -51,7 +52,7 @@ pub fn what_is_printed_is_a_document()
 /// computed, is the same tree, or memory ran out.
 pub fn what_is_printed_reads_back()
     ensures means { (times : Times) (t : Tree) → IsTree t → KeepsLimits t → (u : Tree) × Means times (printed t) u × IsSameTree t u }
-    ensures read { (times : Times) (t : Tree) (read : Result Tree TreeDocFault) → IsTree t → KeepsLimits t → Gives read (meaning times (printed t))
+    ensures read { (times : Times) (t : Tree) (read : Result Tree (Stop TreeDocFault)) → IsTree t → KeepsLimits t → Gives read (meaning times (printed t))
         → IsSameOrLacking t read }
 {}
 

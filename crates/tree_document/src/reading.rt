@@ -34,28 +34,26 @@ fn add_next<'a>(alloc: Global, building: &mut Building, text: &'a [u8]) -> Read<
 /// length of the text, but for the steps that maps take to find a name.
 ///
 /// # Errors
-/// [`TreeDocFault::At`] exactly where the text is no tree document, with the byte at which the first record begins that is
-/// none or may not stand there. [`TreeDocFault::NoMemory`] where memory ran out.
-pub fn read_tree(alloc: Global, bytes: &[u8], times: Times) -> Result<Tree, TreeDocFault>
+/// [`Stop::At`] exactly where the text is no tree document, with the byte at which the first record begins that is none or
+/// may not stand there. [`Stop::Memory`] where memory ran out.
+pub fn read_tree(alloc: Global, bytes: &[u8], times: Times) -> Result<Tree, Stop<TreeDocFault>>
     requires { length bytes.now < 2 ^ 31 }
     ensures tree { IfOk result (λ tree. Means times bytes.now tree) }
-    ensures fault { IfErr result (λ fault. IsFault times bytes.now fault) }
+    ensures fault { IfErr result (λ stop. IsFault times bytes.now stop) }
     ensures start { IfOk result IsStartTree }
     ensures exact { Gives result (meaning times bytes.now) }
 {
-    let Ok(mut building) = Building::new(alloc, times) else {
-        return Err(TreeDocFault::NoMemory);
-    };
+    let mut building = Building::new(alloc, times)?;
     let mut rest = bytes;
     while !rest.is_empty() {
         match add_next(alloc, &mut building, rest) {
             Ok(behind) => rest = behind,
             Err(Stop::At(_)) => {
-                return Err(TreeDocFault::At {
+                return Err(Stop::At(TreeDocFault {
                     byte: (bytes.len() - rest.len()) as u64,
-                });
+                }));
             }
-            Err(Stop::Memory) => return Err(TreeDocFault::NoMemory),
+            Err(Stop::Memory) => return Err(Stop::Memory),
         }
     }
     Ok(building.tree)

@@ -7,7 +7,6 @@ use Rattle.elf_image.specs.declared.fault.ElfFault.{ElfFault}
 use Rattle.tree_model.specs.Changes.{bytes_of}
 use Rattle.abi_base.specs.declared.errno.Errno.TheVariants.{Again, Badf, Mfile, Noexec}
 use Rattle.abi_base.specs.declared.rights.TheConstants.Rights.{PROC_EXEC}
-use Rattle.abi_types.specs.declared.constants.Constants.{Constants}
 use Rattle.abi_types.specs.declared.descriptor.Descriptor.{Descriptor}
 use Rattle.abi_types.specs.declared.open_kind.OpenKind.{OpenKind}
 use Rattle.abi_types.specs.declared.open_kind.OpenKind.TheVariants.{File, Process}

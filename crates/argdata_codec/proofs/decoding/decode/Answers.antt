@@ -20,7 +20,7 @@ returns-in-Ok-clause-found c =
 pub returns-in-Ok-clause-only : goal.returns-in-Ok-clause-only
 returns-in-Ok-clause-only c x h = some_is (shape_of c.in-Ok.value) x (sym c.in-Ok.ensures ∙ value_again 64 x h.0 c.args.bytes.now h.1)
 
-pub returns-in-Err-At-clause-only : goal.returns-in-Err-At-clause-only
-returns-in-Err-At-clause-only c x h =
+pub returns-in_ok-fault-in-Err-At-clause-only : goal.returns-in_ok-fault-in-Err-At-clause-only
+returns-in_ok-fault-in-Err-At-clause-only c x h =
     let none = subst (λ (e : Stop Malformed). IsStopOf e (value_at 64 c.args.bytes.now)) c.in-Err-At.field-0-is c.in-Err-At.ensures in
     absurd (none_some x (sym none ∙ value_again 64 x h.0 c.args.bytes.now h.1))

@@ -4,7 +4,7 @@ use Rattle.argdata_codec.specs.Encoding.{IsLongest}
 use Rattle.argdata_codec.proofs.Longest.{from_each, fault_place}
 use Rattle.argdata_codec.proofs.decoding.fault.Goals as goal
 
-pub returns-in-Ok : goal.returns-in-Ok
-returns-in-Ok c =
+pub returns : goal.returns
+returns c =
     let bytes = c.args.bytes.now in
-    subst (IsLongest bytes) (sym c.in-Ok.ensures.value) (fault_place bytes (from_each bytes (λ i. omega (arith, c.type_inv.bytes i))))
+    subst (IsLongest bytes) (sym c.in_ok-value.ensures.value) (fault_place bytes (from_each bytes (λ i. omega (arith, c.type_inv.bytes i))))

@@ -7,7 +7,8 @@ use Rattle.launch_values.specs.Shape.{Shape}
 use Rattle.launch_values.specs.Views.{shape_of}
 use Rattle.launch_plan.specs.Tagged.{tagged, grants_of, grants_behind}
 use Rattle.launch_plan.specs.Sizes.{values_in}
-use Rattle.launch_plan.proofs.Grants.{behind_none, all_there, refused}
+use Rattle.lists.proofs.Steps.{stopped}
+use Rattle.launch_plan.proofs.Grants.{behind_none, all_there}
 use Rattle.launch_plan.proofs.Plans.{faulty, too_many, too_many_values, none_left, too_large, planned}
 use Rattle.launch_plan.proofs.Asked.{asked_are}
 use Rattle.launch_plan.proofs.planning.plan.Goals as goal
@@ -21,8 +22,8 @@ returns-in_err-push_grants-clause-plan c =
     let p = err_from_is_err_and c.from_residual.result c.from_residual.ensures.1 in
     let x = shape_of c.args.doc.now.root in
     let tree = c.args.tree.now in
-    rw (p.1, p.2) (refused c.in_err-push_grants.field-0.0 (grants_behind tree _ (tagged x)) _
-    (λ e. faulty tree x _ (sym (behind_none tree (tagged x)) ∙ sym (ap (λ none. grants_behind tree none (tagged x)) c.new-grants.ensures) ∙ e)) c.in_err-push_grants.ensures)
+    rw (p.1, p.2) (stopped c.in_err-push_grants.field-0.0 (grants_behind tree _ (tagged x)) _
+    (λ f e. faulty tree x f (sym (behind_none tree (tagged x)) ∙ sym (ap (λ none. grants_behind tree none (tagged x)) c.new-grants.ensures) ∙ e)) c.in_err-push_grants.ensures)
 
 pub returns-then-len-gt-MOST_DESCRIPTORS-clause-plan : goal.returns-then-len-gt-MOST_DESCRIPTORS-clause-plan
 returns-then-len-gt-MOST_DESCRIPTORS-clause-plan c =
@@ -47,15 +48,15 @@ pub returns-then-len-gt-MOST_ARGDATA-clause-plan : goal.returns-then-len-gt-MOST
 returns-then-len-gt-MOST_ARGDATA-clause-plan c =
     let x = shape_of c.args.doc.now.root in
     let tree = c.args.tree.now in
-    too_large tree x c.push_grants.new.grants c.in-Ok.argdata (asked tree _ x _ c.new-grants.ensures c.in_ok-push_grants.ensures) (omega (arith, c.len.ensures, c.if-len-gt-MOST_DESCRIPTORS.false))
-    c.in-Ok.ensures (omega (arith, c.len-2.ensures, c.if-len-gt-MOST_ARGDATA.true))
+    too_large tree x c.push_grants.new.grants c.in_ok-argdata.argdata (asked tree _ x _ c.new-grants.ensures c.in_ok-push_grants.ensures) (omega (arith, c.len.ensures, c.if-len-gt-MOST_DESCRIPTORS.false))
+    c.in_ok-argdata.ensures (omega (arith, c.len-2.ensures, c.if-len-gt-MOST_ARGDATA.true))
 
 pub returns-clause-plan : goal.returns-clause-plan
 returns-clause-plan c =
     let x = shape_of c.args.doc.now.root in
     let tree = c.args.tree.now in
-    planned tree x c.push_grants.new.grants c.in-Ok.argdata (asked tree _ x _ c.new-grants.ensures c.in_ok-push_grants.ensures) (omega (arith, c.len.ensures, c.if-len-gt-MOST_DESCRIPTORS.false))
-    c.in-Ok.ensures (omega (arith, c.len-2.ensures, c.if-len-gt-MOST_ARGDATA.false))
+    planned tree x c.push_grants.new.grants c.in_ok-argdata.argdata (asked tree _ x _ c.new-grants.ensures c.in_ok-push_grants.ensures) (omega (arith, c.len.ensures, c.if-len-gt-MOST_DESCRIPTORS.false))
+    c.in_ok-argdata.ensures (omega (arith, c.len-2.ensures, c.if-len-gt-MOST_ARGDATA.false))
 
 pub returns-clause-grants : goal.returns-clause-grants
 returns-clause-grants c =

@@ -13,4 +13,4 @@ returns-in-Ok-clause-end g c =
     (λ (given : Option Settings). IsTopEnd given (g.S.Source.content c.args.source.now) (Rose (g.S.Source.faults c.args.source.now) (g.S.Source.faults c.run_settings.new.source))
     (record_report (history_with given)) (g.K.Sink.written c.args.sink.now) (g.K.Sink.written c.run_settings.new.sink)
     (Rose (g.K.Sink.faults c.args.sink.now) (g.K.Sink.faults c.run_settings.new.sink)) c.run_settings.result)
-    (sym c.in-Ok.ensures.ok) c.run_settings.ensures.end
+    (sym c.in-Ok.ensures.read) c.run_settings.ensures.end

@@ -14,8 +14,8 @@ add_next-requires-clause-room c = behind_room c.args.times c.args.bytes.now c.lo
 
 pub loop-rest-preserved : goal.loop-rest-preserved
 loop-rest-preserved c =
-    let h = c.in-Ok-add_next.ensures.ok in
-    behind_more c.args.times c.args.bytes.now c.loop-rest.rest.now c.in-Ok-add_next.behind.now (making c.loop-rest.building) (making c.add_next.new.building) h.0
+    let h = c.in-Ok.ensures.ok in
+    behind_more c.args.times c.args.bytes.now c.loop-rest.rest.now c.in-Ok.behind.now (making c.loop-rest.building) (making c.add_next.new.building) h.0
     c.loop-rest.invariant h.1 h.2 h.3 h.4
 
 pub returns-in-Err-At-clause-fault : goal.returns-in-Err-At-clause-fault

@@ -22,9 +22,8 @@ use Rattle.kernel_core.specs.OffsetCalls.{offset_outcome}
 use Rattle.kernel_core.specs.contracts.kernel.Kernel.{the_view}
 use Rattle.kernel_core.proofs.Done.{done_as, done_at, done_seen, lacked, replied_seen}
 use Rattle.kernel_core.proofs.FileCalls.{there_behind, with_tree}
-use Rattle.kernel_core.proofs.OffsetCalls.{IsNoStream, absent_comes, end_outcome_is, offset_done, offset_outcome_is, offset_same, offset_valid, stream_done, stream_outcome_is, with_terms}
+use Rattle.kernel_core.proofs.OffsetCalls.{IsNoStream, absent_comes, end_outcome_is, left_valid, offset_done, offset_outcome_is, offset_same, offset_valid, stream_done, stream_outcome_is, with_terms}
 use Rattle.kernel_core.proofs.Opens.{IsFound, open_absent, open_found}
-use Rattle.kernel_core.proofs.Streams.{written_valid}
 use Rattle.kernel_core.proofs.kernel.Kernel.offset_call.Goals as goal
 use Rattle.kernel_core.proofs.kernel.Kernel.offset_call.Goals.{In-Some}
 
@@ -57,7 +56,8 @@ returns-in_default d = λ table here.
 
 pub invariant_of-self : goal.invariant_of-self
 invariant_of-self c = record {
-  valid = written_valid (the_view c.self.inside) c.on_stream.new.terms c.on_stream.ensures.there c.self.invariant.valid;
+  valid = left_valid (call_of_offset c.args.call) (the_view c.self.inside) c.in-Terminal.which c.on_stream.new.terms c.on_stream.result c.self.invariant.valid
+      c.on_stream.ensures.done;
   counted = c.self.invariant.counted;
   few = c.self.invariant.few;
   small = c.self.invariant.small;
@@ -76,7 +76,7 @@ returns-in-Terminal d = λ table here.
     let r = d.on_stream.result in
     at_found c table U r o here
     (sym (stream_outcome_is d.args.constants.now S f.table d.args.fd called d.in-Some.descriptor t.which t.flags d.requires.on f.named (f.opened ∙ ap Some t.is)))
-    (stream_done called S t.which d.on_stream.new.terms r d.self.invariant.valid d.on_stream.ensures.there d.on_stream.ensures.done)
+    (stream_done called S t.which d.on_stream.new.terms r d.self.invariant.valid d.on_stream.ensures.done)
 
 -- ---- an end of channels
 

@@ -50,7 +50,7 @@ valid c = subst IsValid c.self.view_is c.self.invariant.valid
 
 -- the call is no poll of a lock or a condition variable
 events : (c : In-Ok-Parked) → (meaning_of c.args.call.now).by_stage ≡ false
-events c = c.in_default.ensures.none
+events c = sym c.in_default.ensures.value
 
 live : (c : In-Ok-Parked) → get c.args.self.now.statuses c.args.who.now.pid ≡ Some Live
 live c = thread_is_live c.args.self.now c.args.who.now.pid c.args.who.now.tid (valid c) (ap is_some c.requires.runnable)
