@@ -57,7 +57,9 @@ use Rattle.run_model.proofs.Ends.{acted_end, end_is_answered, ends_not_live}
 use Rattle.run_model.proofs.Histories.{world_more, world_constants, legal_more, apply_is, guest_turned}
 use Rattle.run_model.proofs.ThreadRegisters.{parked_ends}
 use Rattle.run_model.proofs.Waited.{parked_is}
-use Rattle.kernel_cell.specs.Acting.{AsksCall, AsksWake, GoesOn, HasLeft, HasStarted, IsDead, KeepsBut, WaitsOn, act_of, status_of}
+use Rattle.kernel_cell.specs.Acting.{GoesOn, HasLeft, HasStarted, IsDead, KeepsBut, WaitsOn}
+use Rattle.kernel_cell.specs.Afterwards.{act_of, status_of}
+use Rattle.kernel_cell.specs.Asking.{AsksCall, AsksWake}
 use Rattle.shared_history.specs.Entries.{head_of, entry_of}
 use Rattle.shared_history.specs.Kept.{Takes}
 use Rattle.kernel_cell.specs.Recorded.{IsRecorded}

@@ -1,42 +1,43 @@
--- What a pass tells after a call on the locked kernel.
---     made_since, asks_since, asks_call_since, asks_wake_since      what was so when the pass was last here is so still
---     acted_tells, forked_tells, woken_tells, stopped_tells      what the call did to the history is what the pass tells
-use Rattle.std.specs.Prelude.{Result, Ok, Err}
-use Rattle.std.proofs.Common.{◌≡◌, ◌≢◌, ℕ, ◌+◌, Bool, true, false, not, ◌&&◌, List, [], ◌∷◌, ◌++◌, length, Contains, Option, None, Some, IsTrue, ◌↔◌, refl, sym, ap, subst, ◌∙◌, eqb, eq-eqb, arith, length-append}
+-- What a pass has seen after a call on the locked kernel.
+--     made_since, asks_there      what was so when the pass was last here is so still
+--     first_held, held_then, fork_hands      the processes that the keeper holds
+--     answers_busy, own_entered      an entry of the process is its own
+--     asks_here, asks_call_here, is_seen, seen_here, acted_here      what happened to the history is what the pass has seen
+--     after_look, live_tells      a look
+use Rattle.std.proofs.Common.{◌≡◌, ℕ, ◌+◌, Bool, false, not, ◌&&◌, List, [], ◌∷◌, ◌++◌, Contains, Option, None, Some, IsTrue, ◌↔◌, refl, sym, ap, subst, ◌∙◌, eqb, eq-eqb, arith, length, length-append}
 use Rattle.std.specs.FinMap.{get}
 use Rattle.abi_types.specs.declared.status.Status.TheVariants.{Live}
 use Rattle.abi_types.specs.declared.call.Call.{Call}
-use Rattle.abi_types.specs.declared.thread.Thread.{Thread}
+use Rattle.abi_types.specs.declared.call.Call.TheVariants.{ProcFork}
 use Rattle.abi_types.specs.declared.thread.Thread.TheVariants.{Waits}
 use Rattle.run_types.specs.declared.history.Act.{Act}
 use Rattle.run_types.specs.declared.history.Act.TheVariants as act
 use Rattle.run_types.specs.declared.history.Entry.{Entry}
 use Rattle.run_types.specs.declared.launch.Launch.{Launch}
 use Rattle.tree_model.specs.Grants.{MayBegin}
-use Rattle.kernel_model.specs.State.{State, counts_in, thread_in, thread_of}
-use Rattle.kernel_model.specs.Threads.{IsMoved}
-use Rattle.run_model.specs.Legal.{AreWhole, Asks, Legal}
+use Rattle.kernel_model.specs.State.{State, thread_in}
+use Rattle.run_model.specs.Legal.{AreWhole, Asks as AsksAct, Legal}
 use Rattle.run_model.specs.Own.{is_idle, own, Made, IsLiveIn, Same}
 use Rattle.run_model.specs.World.{Guest, come_to, made_since as since_made, thread_at, world, guest_of, turned_guest_by}
-use Rattle.run_model.proofs.Histories.{legal_more}
 use Rattle.run_model.proofs.Asks.{asks_stay, whole_there}
 use Rattle.run_model.proofs.Own.{made_later, same_threads, left_alone}
-use Rattle.kernel_cell.specs.Acting.{AsksCall, AsksEnd, AsksFor, AsksWake, Added, AddedCall, AddedEnd, AddedWake, HasStarted, held_after, held_without, with_pass, IsForked, IsForkedOn, KeepsBut, MayHandOut, Looked, Appends, AppendsCall, AppendsEnd, AppendsWake, IsActed, IsActedOn, IsNotReady, IsStopped, IsStoppedOn, IsWoken, IsWokenOn, act_of}
-use Rattle.shared_history.specs.Entries.{answered_call, head_of, entry_of}
+use Rattle.shared_history.specs.Entries.{head_of, entry_of}
 use Rattle.shared_history.specs.Passes.{Passing, IsSeen, Later}
 use Rattle.shared_history.specs.Rule.{tail_of}
-use Rattle.kernel_cell.specs.declared.results.Acted.{Acted}
-use Rattle.kernel_cell.specs.declared.results.Acted.TheVariants as acted
-use Rattle.kernel_cell.specs.declared.results.EndBy.{EndBy}
-use Rattle.kernel_cell.specs.declared.results.EndBy.TheVariants as end_by
-use Rattle.kernel_cell.specs.declared.results.NotMade.{NotMade}
-use Rattle.kernel_cell.specs.declared.results.NotMade.TheVariants as not_made
-use Rattle.kernel_cell.specs.declared.results.Stopped.{Stopped}
-use Rattle.kernel_cell.specs.declared.results.Stopped.TheVariants as stopped
-use Rattle.kernel_cell.specs.declared.results.Woken.{Woken}
-use Rattle.kernel_cell.specs.declared.results.Woken.TheVariants as woken
 use Rattle.shared_history.proofs.Histories.{own_more}
 use Rattle.shared_history.proofs.Owners.{contains_none, contains_one}
+use Rattle.kernel_cell.specs.Acting.{Entered, HasSeen, IsActedOn, IsCame, IsForkedOn, Looked, Seen, by_number}
+use Rattle.kernel_cell.specs.Asking.{Answers, Asks, AsksCall, AsksFor, AsksWake}
+use Rattle.kernel_cell.specs.Afterwards.{act_of}
+use Rattle.kernel_cell.specs.Handing.{held_after, held_without, with_pass, MayHandOut}
+use Rattle.kernel_cell.specs.declared.results.After.{After}
+use Rattle.kernel_cell.specs.declared.results.Asked.{Asked}
+use Rattle.kernel_cell.specs.declared.results.Asked.TheVariants as asked
+use Rattle.kernel_cell.specs.declared.results.Body.{Body}
+use Rattle.kernel_cell.specs.declared.results.EndBy.{EndBy}
+use Rattle.kernel_cell.specs.declared.results.EndBy.TheVariants as end_by
+use Rattle.kernel_cell.specs.declared.results.Came.{Came}
+use Rattle.kernel_cell.specs.declared.results.Came.TheVariants as came
 
 -- ---- the history since the pass was last here
 
@@ -51,12 +52,8 @@ module _ (launch : Launch) (p : ℕ) (seen log : List Entry) (legal : Legal laun
   same_since : MayBegin launch.tree launch.grants → Made (world launch seen) p → IsLiveIn (world launch log) p → Same (world launch log) (world launch seen) p
   same_since begins made live = left_alone launch seen later.beginning.0 log p begins legal (sym later.beginning.1) later.same made live
 
--- the pass's process was made, and the history is legal
-pub seen_since : (launch : Launch) (p : ℕ) (seen log : List Entry) → Legal launch log → IsSeen launch p seen → Later p seen log → IsSeen launch p log
-seen_since launch p seen log legal was later = record { legal = legal; made = made_since launch p seen log legal later was.made }
-
 -- the moment since which a thread does an act, and how far its wait has come, matter where it waits, and there the call that it waits in says them
-asks_at : (S T : State) (p t : ℕ) (guest : Guest) (turns : List ℕ) (a : Act) → Asks T (thread_at S p t) guest turns a → Asks T (thread_at T p t) guest turns a
+asks_at : (S T : State) (p t : ℕ) (guest : Guest) (turns : List ℕ) (a : Act) → AsksAct T (thread_at S p t) guest turns a → AsksAct T (thread_at T p t) guest turns a
 asks_at S T p t guest turns (act.Call call given) asks = asks
 asks_at S T p t guest turns (act.Wake call given answered) asks = (
   asks.0,
@@ -104,6 +101,17 @@ asks_wake_since launch begins p t seen log turns guest legal later made a live =
       waits = record { thread = a.waits.thread; there = ap (λ o. thread_in o t) threads ∙ a.waits.there; waits = a.waits.waits };
     }
 
+-- what thread t of the pass's process asks for it asks for still
+pub asks_there : (launch : Launch) → MayBegin launch.tree launch.grants → (v : Passing) (t : ℕ) (body : Body) (what : Asked) (log : List Entry) → Legal launch log
+    → Later v.pid v.seen log → IsSeen launch v.pid v.seen → Asks (world launch v.seen) v.pid t body what → IsLiveIn (world launch log) v.pid
+    → Asks (world launch log) v.pid t body what
+asks_there launch begins v t body (asked.Calls call) log legal later was asks live =
+    (asks_call_since launch begins v.pid t v.seen log body.turns body.guest call legal later was.made asks.0 live, asks.1)
+asks_there launch begins v t body asked.Wakes log legal later was asks live =
+    asks_wake_since launch begins v.pid t v.seen log body.turns body.guest legal later was.made asks live
+asks_there launch begins v t body (asked.Ends how) log legal later was asks live =
+    asks_since launch begins v.pid t v.seen log body.turns (act_of how) legal later was.made asks live
+
 -- ---- the processes that the keeper holds
 
 pub first_held : (held : List ℕ) (p : ℕ) → held ≡ p ∷ [] → held ≡ p ∷ tail_of held
@@ -112,312 +120,149 @@ first_held held p one = one ∙ ap (λ ps. p ∷ tail_of ps) (sym one)
 pub none_behind : (held : List ℕ) (p : ℕ) → held ≡ p ∷ [] → Contains (tail_of held) p → ⊥
 none_behind held p one there = contains_none p (subst (λ ps. Contains (tail_of ps) p) one there)
 
--- ---- what a pass tells
+-- those that it holds once a child's pass was handed out
+pub held_then : (held : List ℕ) (p : ℕ) (result : Came (Option (ℕ × Guest))) → held ≡ held_after result (p ∷ []) → held_without result held ≡ p ∷ []
+held_then held p (came.Done (Some child)) is = ap tail_of is
+held_then held p (came.Done None) is = is
+held_then held p came.NotReady is = is
+held_then held p came.Gone is = is
+held_then held p came.NoMemory is = is
 
 -- a list with one more has some
 more_is_some : (xs : List Entry) (e : Entry) → xs ++ e ∷ [] ≡ [] → ⊥
 more_is_some xs e none = omega (arith, length-append xs (e ∷ []), ap (λ (es : List Entry). length es) none)
 
--- the processes that the keeper holds once a child's pass was handed out
-pub held_then : (held : List ℕ) (p : ℕ) (result : Result (Option (ℕ × Guest)) NotMade) → held ≡ held_after result (p ∷ [])
-    → held_without result held ≡ p ∷ []
-held_then held p (Ok (Some child)) is = ap tail_of is
-held_then held p (Ok None) is = is
-held_then held p (Err not_made) is = is
-
--- an entry of the thread, which is no idle jump, is its process's own
-own_act : (p : ℕ) (a : Act) → is_idle a ≡ false → (not (is_idle a) && eqb p p) ≡ true
-own_act p a busy = ap (λ b. not b && eqb p p) busy ∙ eq-eqb p p refl
-
+-- an entry that answers what a thread asked for is no idle jump, and so its process's own
 end_is_busy : (how : EndBy) → is_idle (act_of how) ≡ false
 end_is_busy (end_by.Trap signal) = refl
 end_is_busy end_by.Expire = refl
 
-module _ (launch : Launch) (begins : MayBegin launch.tree launch.grants) (v : Passing) (t : ℕ) (turns : List ℕ) (log : List Entry)
-    (seen : IsSeen launch v.pid v.seen) (legal : Legal launch log) (later : Later v.pid v.seen log) where
-  abbrev now : List Entry → Passing
-  now after = record { pid = v.pid; seen = after }
+pub answers_busy : (what : Asked) (a : Act) → Answers what a → is_idle a ≡ false
+answers_busy (asked.Calls call) a answers = ap is_idle answers.1
+answers_busy asked.Wakes a answers = ap is_idle answers.3
+answers_busy (asked.Ends how) a answers = ap is_idle answers ∙ end_is_busy how
 
-  -- the pass has seen the history as it is, if nothing was added
-  pub looked : (after : List Entry) → after ≡ log → Looked launch v (now after)
-  looked after same = record {
-    pid = refl;
-    seen = subst (IsSeen launch v.pid) (sym same) (record { legal = legal; made = made_since launch v.pid v.seen log legal later seen.made });
-    later = subst (Later v.pid v.seen) (sym same) later;
-  }
+pub own_entered : (launch : Launch) (log after : List Entry) (p t : ℕ) (turns : List ℕ) (what : Asked) (entered : Entered launch log p t turns what after)
+    → own p after ≡ own p log ++ entry_of (head_of entered.moment p t turns) entered.act ∷ []
+own_entered launch log after p t turns what entered =
+    ap (own p) entered.last
+    ∙ own_more p log (entry_of (head_of entered.moment p t turns) entered.act)
+    (ap (λ b. not b && eqb p p) (answers_busy what entered.act entered.answers) ∙ eq-eqb p p refl)
 
-  -- it has seen the entry that was added
-  added : (moment : ℕ) (a : Act) (after : List Entry) → is_idle a ≡ false → Appends launch log (entry_of (head_of moment v.pid t turns) a) after
-      → Added launch v (entry_of (head_of moment v.pid t turns) a) (now after)
-  added moment a after busy came =
-      let e = entry_of (head_of moment v.pid t turns) a in
-      let last = came.last in
-      let more = legal_more launch log e legal came.fits in
-      record {
-        pid = refl;
-        seen = subst (IsSeen launch v.pid) (sym last) (record {
-          legal = more;
-          made = made_later launch log (e ∷ []) v.pid more (made_since launch v.pid v.seen log legal later seen.made);
-        });
-        same_own = ap (own v.pid) last ∙ own_more v.pid log e (own_act v.pid a busy)
-            ∙ ap (λ (mine : List Entry). mine ++ e ∷ []) (sym later.same);
-        before = log;
-        later = later;
-        last = last;
-      }
+-- the keeper may hand out the child's pass
+pub fork_hands : (launch : Launch) (log after : List Entry) (p t : ℕ) (body : Body) (call : Call) (body' : Body) (held : List ℕ) (result : Came (Option (ℕ × Guest)))
+    → IsForkedOn launch log p t body call body' after result → held ≡ held_after result (p ∷ [])
+    → MayHandOut launch (record { log = after; held = held }) result
+fork_hands launch log after p t body call body' held (came.Done (Some child)) on is = (
+  is ∙ ap (λ ps. child.0 ∷ tail_of ps) (sym is),
+  (λ there. apart (contains_one p child.0 (subst (λ ps. Contains (tail_of ps) child.0) is there))),
+  on.came.1.3.seen,
+)
+  where
+    apart : child.0 ≡ p → ⊥
+    apart same = more_is_some (own p log) _ (sym (own_entered launch log after p t body.turns (asked.Calls call) on.came.0)
+        ∙ ap (λ q. own q after) (sym same) ∙ on.came.1.3.none)
+fork_hands launch log after p t body call body' held (came.Done None) on is = tt
+fork_hands launch log after p t body call body' held came.NotReady on is = tt
+fork_hands launch log after p t body call body' held came.Gone on is = tt
+fork_hands launch log after p t body call body' held came.NoMemory on is = tt
 
-  added_call : (call : Call) (after : List Entry) → AppendsCall launch log v.pid t turns call after → AddedCall launch v t turns call (now after)
-  added_call call after c = record { moment = c.moment; given = c.given; added = added c.moment (act.Call call c.given) after refl c.came }
+-- ---- what the pass has seen
 
-  added_wake : (after : List Entry) → AppendsWake launch log v.pid t turns after → AddedWake launch v t turns (now after)
-  added_wake after c = record {
-    moment = c.moment;
-    call = c.call;
-    given = c.given;
-    answered = c.answered;
-    added = added c.moment (act.Wake c.call c.given c.answered) after refl c.came;
-  }
+-- a process that was made stays made
+pub made_here : {T : Type 0} (launch : Launch) (log after : List Entry) (p t : ℕ) (turns : List ℕ) (what : Asked) (became : Act → T → Type 0) (result : Came T)
+    → IsCame launch log p t turns what became after result → Legal launch after → (q : ℕ) → Made (world launch log) q → Made (world launch after) q
+made_here launch log after p t turns what became (came.Done x) on legal q made =
+    let e = entry_of (head_of on.0.moment p t turns) on.0.act in
+    subst (λ (h : List Entry). Made (world launch h) q) (sym on.0.last)
+    (made_later launch log (e ∷ []) q (subst (Legal launch) on.0.last legal) made)
+made_here launch log after p t turns what became came.NotReady on legal q made = subst (λ (h : List Entry). Made (world launch h) q) (sym on.0) made
+made_here launch log after p t turns what became came.Gone on legal q made = subst (λ (h : List Entry). Made (world launch h) q) (sym on.0) made
+made_here launch log after p t turns what became came.NoMemory on legal q made = subst (λ (h : List Entry). Made (world launch h) q) (sym on.0) made
 
-  added_end : (how : EndBy) (after : List Entry) → AppendsEnd launch log v.pid t turns how after → AddedEnd launch v t turns how (now after)
-  added_end how after c = record { moment = c.moment; added = added c.moment (act_of how) after (end_is_busy how) c.came }
+-- the process of the pass was made in the history that is handed out
+pub seen_after : {T : Type 0} (launch : Launch) (v : Passing) (log after : List Entry) (t : ℕ) (turns : List ℕ) (what : Asked) (became : Act → T → Type 0) (result : Came T)
+    → IsSeen launch v.pid v.seen → Legal launch log → Later v.pid v.seen log → Legal launch after
+    → IsCame launch log v.pid t turns what became after result → IsSeen launch v.pid after
+seen_after launch v log after t turns what became result was legal later more on = record {
+  legal = more;
+  made = made_here launch log after v.pid t turns what became result on more v.pid (made_since launch v.pid v.seen log legal later was.made);
+}
 
-  -- what holds of the history as it was holds of the one that is the same
-  still : (after : List Entry) (P : List Entry → Type 0) → after ≡ log → P log → P after
-  still after P same here = subst P (sym same) here
+pub seen_it : (launch : Launch) (v w : Passing) (log after : List Entry) (happened : List Entry → List Entry → Type 0) → Later v.pid v.seen log
+    → w ≡ record { pid = v.pid; seen = after } → IsSeen launch v.pid after → happened log after → Seen launch v w happened
+seen_it launch v w log after happened later is seen happens =
+    subst (λ (x : Passing). Seen launch v x happened) (sym is) (record { pid = refl; seen = seen; log = log; later = later; happens = happens })
 
-  -- the threads were at the history before the entry what they were where the pass was last here
-  threads_then : (moment : ℕ) (a : Act) (after : List Entry) → is_idle a ≡ false → Appends launch log (entry_of (head_of moment v.pid t turns) a) after
-      → (u : ℕ) → thread_of (world launch log).state v.pid u ≡ thread_of (world launch v.seen).state v.pid u
-  threads_then moment a after busy came u =
-      ap (λ o. thread_in o u)
-      (same_threads (world launch log) (world launch v.seen) v.pid (same_since launch v.pid v.seen log legal later begins seen.made (came.fits.live busy)))
+-- what the keeper said of the pass u that it took in, which contracts see as v
+module _ (launch : Launch) (begins : MayBegin launch.tree launch.grants) (u v : Passing) (t : ℕ) (log here : List Entry) (is : u ≡ v) (same : here ≡ log)
+    (legal : Legal launch log) (was : IsSeen launch u.pid u.seen) (later : Later u.pid u.seen log) where
+  -- what was asked for is asked for still
+  pub asks_here : (body : Body) (what : Asked) → Asks (world launch v.seen) v.pid t body what → IsLiveIn (world launch here) u.pid
+      → Asks (world launch here) u.pid t body what
+  asks_here body what asks live =
+      subst (λ (h : List Entry). Asks (world launch h) u.pid t body what) (sym same)
+      (asks_there launch begins u t body what log legal later was (subst (λ (x : Passing). Asks (world launch x.seen) x.pid t body what) (sym is) asks)
+      (subst (λ (h : List Entry). IsLiveIn (world launch h) u.pid) same live))
 
-  keeps_then : (moment : ℕ) (a : Act) (after : List Entry) (x : ℕ) → is_idle a ≡ false
-      → Appends launch log (entry_of (head_of moment v.pid t turns) a) after → KeepsBut launch log after v.pid x → KeepsBut launch v.seen after v.pid x
-  keeps_then moment a after x busy came keeps u apart =
-      subst (λ (o : Option Thread). IsMoved o (thread_of (world launch after).state v.pid u)) (threads_then moment a after busy came u) (keeps u apart)
+  pub asks_call_here : (turns : List ℕ) (guest : Guest) (call : Call) → AsksCall (world launch v.seen) v.pid t turns guest call → IsLiveIn (world launch here) u.pid
+      → AsksCall (world launch here) u.pid t turns guest call
+  asks_call_here turns guest call asks live =
+      subst (λ (h : List Entry). AsksCall (world launch h) u.pid t turns guest call) (sym same)
+      (asks_call_since launch begins u.pid t u.seen log turns guest call legal later was.made
+      (subst (λ (x : Passing). AsksCall (world launch x.seen) x.pid t turns guest call) (sym is) asks)
+      (subst (λ (h : List Entry). IsLiveIn (world launch h) u.pid) same live))
 
-  keeps_call : (call : Call) (after : List Entry) (x : ℕ) → AppendsCall launch log v.pid t turns call after → KeepsBut launch log after v.pid x
-      → KeepsBut launch v.seen after v.pid x
-  keeps_call call after x c keeps = keeps_then c.moment (act.Call call c.given) after x refl c.came keeps
+  pub is_seen : {T : Type 0} (after : List Entry) (turns : List ℕ) (what : Asked) (became : Act → T → Type 0) (result : Came T) → Legal launch after
+      → IsCame launch here u.pid t turns what became after result → IsSeen launch u.pid after
+  is_seen after turns what became result more on =
+      seen_after launch u log after t turns what became result was legal later more
+      (subst (λ (h : List Entry). IsCame launch h u.pid t turns what became after result) same on)
 
-  starts_call : (call : Call) (after : List Entry) (u : ℕ) → AppendsCall launch log v.pid t turns call after → HasStarted launch log after v.pid u
-      → HasStarted launch v.seen after v.pid u
-  starts_call call after u c starts = record {
-    absent = sym (threads_then c.moment (act.Call call c.given) after refl c.came u) ∙ starts.absent;
-    numbered = starts.numbered
-        ∙ ap (λ o. (counts_in o).threads + 1) (same_since launch v.pid v.seen log legal later begins seen.made (c.came.fits.live refl)).rest;
-    runs = starts.runs;
-    others = keeps_call call after u c starts.others;
-  }
+  pub seen_here : (w : Passing) (after : List Entry) (happened : Passing → List Entry → List Entry → Type 0) → w ≡ record { pid = u.pid; seen = after }
+      → IsSeen launch u.pid after → happened u here after → Seen launch v w (happened v)
+  seen_here w after happened handed seen on =
+      subst (λ (x : Passing). Seen launch x w (happened x)) is
+      (seen_it launch u w log after (happened u) later handed seen (subst (λ (h : List Entry). happened u h after) same on))
 
-  pub acted_tells : (call : Call) (guest : Guest) (after : List Entry) (result : Acted) → IsActedOn launch log v.pid t turns call guest after result
-      → IsActed launch v t turns call guest (now after) result
-  unfolding added_call
-  acted_tells call guest after acted.Runs on = (added_call call after on.0, on.1, keeps_call call after t on.0 on.2)
-  acted_tells call guest after (acted.Starts u) on = (added_call call after on.0, on.1, starts_call call after u on.0 on.2)
-  acted_tells call guest after acted.Parks on = (added_call call after on.0, on.1, keeps_call call after t on.0 on.2)
-  acted_tells call guest after acted.Leaves on = (added_call call after on.0, on.1, keeps_call call after t on.0 on.2)
-  acted_tells call guest after acted.Begins on = (added_call call after on.0, on.1, on.2)
-  acted_tells call guest after acted.Lost on = (added_call call after on.0, on.1)
-  acted_tells call guest after acted.Ends on = (added_call call after on.0, on.1)
-  acted_tells call guest after acted.Gone on = (looked after on.0, still after (λ h. ¬ IsLiveIn (world launch h) v.pid) on.0 on.1)
-  acted_tells call guest after acted.NoMemory on = (looked after on.0, still after (λ h. IsLiveIn (world launch h) v.pid) on.0 on.1)
+  -- the same of the whole history
+  pub acted_here : (after : List Entry) (body : Body) (what : Asked) (body' : Body) (result : Came After) → IsActedOn launch here u.pid t body what body' after result
+      → IsActedOn launch log v.pid t body what body' after result
+  acted_here after body what body' result on =
+      subst (λ (x : List Entry × Passing). IsActedOn launch x.0 x.1.pid t body what body' after result) (λ i. (same i, is i)) on
 
-  pub forked_tells : (call : Call) (guest : Guest) (after : List Entry) (result : Result (Option (ℕ × Guest)) NotMade)
-      → IsForkedOn launch log v.pid t turns call guest after result → IsForked launch v t turns call guest (now after) (with_pass after result)
-  unfolding added_call
-  forked_tells call guest after (Ok (Some child)) on = (added_call call after on.0, on.1, keeps_call call after t on.0 on.2, refl, on.3, on.4)
-  forked_tells call guest after (Ok None) on = (added_call call after on.0, on.1, keeps_call call after t on.0 on.2, on.3)
-  forked_tells call guest after (Err not_made.Gone) on = (looked after on.0, still after (λ h. ¬ IsLiveIn (world launch h) v.pid) on.0 on.1)
-  forked_tells call guest after (Err not_made.NoMemory) on = (looked after on.0, still after (λ h. IsLiveIn (world launch h) v.pid) on.0 on.1)
+-- what comes of a proc_fork with the child's number comes of it with the pass that the keeper hands out
+numbered : (log : List Entry) (result : Came (Option (ℕ × Guest))) → by_number (with_pass log result) ≡ result
+numbered log (came.Done (Some child)) = refl
+numbered log (came.Done None) = refl
+numbered log came.NotReady = refl
+numbered log came.Gone = refl
+numbered log came.NoMemory = refl
 
-  -- the child is another process, since no entry is of it
-  child_apart : (call : Call) (after : List Entry) (child : ℕ) → AppendsCall launch log v.pid t turns call after → own child after ≡ [] → child ≢ v.pid
-  unfolding added_call
-  child_apart call after child c none same =
-      more_is_some (own v.pid v.seen) (answered_call (head_of c.moment v.pid t turns) call None c.given)
-      (sym (added_call call after c).added.same_own ∙ ap (λ q. own q after) (sym same) ∙ none)
+seen_by_child : (log : List Entry) (result : Came (Option (ℕ × Guest))) → HasSeen log (with_pass log result)
+seen_by_child log (came.Done (Some child)) = refl
+seen_by_child log (came.Done None) = tt
+seen_by_child log came.NotReady = tt
+seen_by_child log came.Gone = tt
+seen_by_child log came.NoMemory = tt
 
-  pub hands_child : (call : Call) (guest : Guest) (after : List Entry) (held : List ℕ) (result : Result (Option (ℕ × Guest)) NotMade)
-      → IsForkedOn launch log v.pid t turns call guest after result → held ≡ held_after result (v.pid ∷ [])
-      → MayHandOut launch (record { log = after; held = held }) result
-  hands_child call guest after held (Ok (Some child)) on is = (
-    is ∙ ap (λ ps. child.0 ∷ tail_of ps) (sym is),
-    (λ there. child_apart call after child.0 on.0 on.3.none (contains_one v.pid child.0 (subst (λ ps. Contains (tail_of ps) child.0) is there))),
-    on.3.seen,
-  )
-  hands_child call guest after held (Ok None) on is = tt
-  hands_child call guest after held (Err not_made) on is = tt
-
-  pub woken_tells : (guest : Guest) (after : List Entry) (result : Woken) → IsWokenOn launch log v.pid t turns guest after result
-      → IsWoken launch v t turns guest (now after) result
-  woken_tells guest after woken.Runs on = (
-    added_wake after on.0,
-    on.1,
-    keeps_then on.0.moment (act.Wake on.0.call on.0.given on.0.answered) after t refl on.0.came on.2,
-  )
-  woken_tells guest after woken.Parks on = (
-    added_wake after on.0,
-    on.1,
-    keeps_then on.0.moment (act.Wake on.0.call on.0.given on.0.answered) after t refl on.0.came on.2,
-  )
-  woken_tells guest after woken.Ends on = (added_wake after on.0, on.1)
-  woken_tells guest after woken.NotReady on = (looked after on.0, still after (λ h. IsNotReady launch h v.pid t) on.0 on.1)
-  woken_tells guest after woken.Gone on = (looked after on.0, still after (λ h. ¬ IsLiveIn (world launch h) v.pid) on.0 on.1)
-  woken_tells guest after woken.NoMemory on = (looked after on.0, still after (λ h. IsLiveIn (world launch h) v.pid) on.0 on.1)
-
-  pub stopped_tells : (how : EndBy) (after : List Entry) (result : Stopped) → IsStoppedOn launch log v.pid t turns how after result
-      → IsStopped launch v t turns how (now after) result
-  stopped_tells how after stopped.Done on = (added_end how after on.0, on.1)
-  stopped_tells how after stopped.Gone on = (looked after on.0, still after (λ h. ¬ IsLiveIn (world launch h) v.pid) on.0 on.1)
-  stopped_tells how after stopped.NoMemory on = (looked after on.0, still after (λ h. IsLiveIn (world launch h) v.pid) on.0 on.1)
-
-  -- in either case the process was made and the history is legal
-  pub acted_seen : (call : Call) (guest : Guest) (after : List Entry) (result : Acted)
-      → IsActed launch v t turns call guest (now after) result → IsSeen launch v.pid after
-  acted_seen call guest after acted.Runs tells = tells.0.added.seen
-  acted_seen call guest after (acted.Starts u) tells = tells.0.added.seen
-  acted_seen call guest after acted.Parks tells = tells.0.added.seen
-  acted_seen call guest after acted.Leaves tells = tells.0.added.seen
-  acted_seen call guest after acted.Begins tells = tells.0.added.seen
-  acted_seen call guest after acted.Lost tells = tells.0.added.seen
-  acted_seen call guest after acted.Ends tells = tells.0.added.seen
-  acted_seen call guest after acted.Gone tells = tells.0.seen
-  acted_seen call guest after acted.NoMemory tells = tells.0.seen
-
-  pub forked_seen : (call : Call) (guest : Guest) (after : List Entry) (result : Result (Option (ℕ × Guest)) NotMade)
-      → IsForked launch v t turns call guest (now after) (with_pass after result) → IsSeen launch v.pid after
-  forked_seen call guest after (Ok (Some child)) tells = tells.0.added.seen
-  forked_seen call guest after (Ok None) tells = tells.0.added.seen
-  forked_seen call guest after (Err not_made.Gone) tells = tells.0.seen
-  forked_seen call guest after (Err not_made.NoMemory) tells = tells.0.seen
-
-  pub woken_seen : (guest : Guest) (after : List Entry) (result : Woken) → IsWoken launch v t turns guest (now after) result → IsSeen launch v.pid after
-  woken_seen guest after woken.Runs tells = tells.0.added.seen
-  woken_seen guest after woken.Parks tells = tells.0.added.seen
-  woken_seen guest after woken.Ends tells = tells.0.added.seen
-  woken_seen guest after woken.NotReady tells = tells.0.seen
-  woken_seen guest after woken.Gone tells = tells.0.seen
-  woken_seen guest after woken.NoMemory tells = tells.0.seen
-
-  pub stopped_seen : (how : EndBy) (after : List Entry) (result : Stopped) → IsStopped launch v t turns how (now after) result → IsSeen launch v.pid after
-  stopped_seen how after stopped.Done tells = tells.0.added.seen
-  stopped_seen how after stopped.Gone tells = tells.0.seen
-  stopped_seen how after stopped.NoMemory tells = tells.0.seen
-
--- ---- the same, of what the locked kernel has
-
--- what the keeper said of the pass that it took in, of which these are the parts
-pub later_of : (v : Passing) (p : ℕ) (seen log : List Entry) → v ≡ record { pid = p; seen = seen } → Later v.pid v.seen log → Later p seen log
-later_of v p seen log is later = subst (λ (u : Passing). Later u.pid u.seen log) is later
-
-module _ (launch : Launch) (begins : MayBegin launch.tree launch.grants) (p t : ℕ) (seen : List Entry) (turns : List ℕ) (log current : List Entry)
-    (same : current ≡ log) (was : IsSeen launch p seen) (legal : Legal launch log) (later : Later p seen log) where
-  abbrev passing : List Entry → Passing
-  passing h = record { pid = p; seen = h }
-
-  -- what the thread asked for where its pass was last here, it asks for here
-  now_here : (P : Passing → List Entry → Type 0) (v : Passing) → passing seen ≡ v → (P (passing seen) seen → IsLiveIn (world launch log) p → P (passing seen) log)
-      → P v v.seen → IsLiveIn (world launch current) p → P (passing seen) current
-  now_here P v is since asks =
-      subst (λ (h : List Entry). IsLiveIn (world launch h) p → P (passing seen) h) (sym same) (since (subst (λ (u : Passing). P u u.seen) (sym is) asks))
-
-  pub asks_call_now : (v : Passing) (guest : Guest) (call : Call) → passing seen ≡ v → AsksCall (world launch v.seen) v.pid t turns guest call
-      → IsLiveIn (world launch current) p → AsksCall (world launch current) p t turns guest call
-  asks_call_now v guest call is asks =
-      now_here (λ u h. AsksCall (world launch h) u.pid t turns guest call) v is
-      (asks_call_since launch begins p t seen log turns guest call legal later was.made) asks
-
-  pub asks_wake_now : (v : Passing) (guest : Guest) → passing seen ≡ v → AsksWake (world launch v.seen) v.pid t turns guest
-      → IsLiveIn (world launch current) p → AsksWake (world launch current) p t turns guest
-  asks_wake_now v guest is asks =
-      now_here (λ u h. AsksWake (world launch h) u.pid t turns guest) v is (asks_wake_since launch begins p t seen log turns guest legal later was.made) asks
-
-  pub asks_end_now : (v : Passing) (how : EndBy) → passing seen ≡ v → AsksEnd (world launch v.seen) v.pid t turns how
-      → IsLiveIn (world launch current) p → AsksEnd (world launch current) p t turns how
-  asks_end_now v how is asks =
-      now_here (λ u h. AsksEnd (world launch h) u.pid t turns how) v is (asks_since launch begins p t seen log turns (act_of how) legal later was.made) asks
-
-  module _ (call : Call) (guest : Guest) (after : List Entry) (result : Acted) (on : IsActedOn launch current p t turns call guest after result) where
-    on_log : IsActedOn launch log p t turns call guest after result
-    on_log = subst (λ (h : List Entry). IsActedOn launch h p t turns call guest after result) same on
-
-    told : IsActed launch (passing seen) t turns call guest (passing after) result
-    told = acted_tells launch begins (passing seen) t turns log was legal later call guest after result on_log
-
-    pub acted_is_seen : IsSeen launch p after
-    acted_is_seen = acted_seen launch begins (passing seen) t turns log was legal later call guest after result told
-
-    pub pass_after_call : (v w : Passing) → passing seen ≡ v → w ≡ passing after → IsActed launch v t turns call guest w result
-    pass_after_call v w is handed =
-        subst (λ (x : Passing × Passing). IsActed launch x.0 t turns call guest x.1 result) (λ i. (is i, sym handed i)) told
-
-  module _ (call : Call) (guest : Guest) (after : List Entry) (result : Result (Option (ℕ × Guest)) NotMade)
-      (on : IsForkedOn launch current p t turns call guest after result) where
-    on_fork : IsForkedOn launch log p t turns call guest after result
-    on_fork = subst (λ (h : List Entry). IsForkedOn launch h p t turns call guest after result) same on
-
-    told_fork : IsForked launch (passing seen) t turns call guest (passing after) (with_pass after result)
-    told_fork = forked_tells launch begins (passing seen) t turns log was legal later call guest after result on_fork
-
-    pub forked_is_seen : IsSeen launch p after
-    forked_is_seen = forked_seen launch begins (passing seen) t turns log was legal later call guest after result told_fork
-
-    pub fork_hands : (held : List ℕ) → held ≡ held_after result (p ∷ []) → MayHandOut launch (record { log = after; held = held }) result
-    fork_hands held is = hands_child launch begins (passing seen) t turns log was legal later call guest after held result on_fork is
-
-    pub pass_after_fork : (v w : Passing) (given : Result (Option (Passing × Guest)) NotMade) → passing seen ≡ v → w ≡ passing after
-        → given ≡ with_pass after result → IsForked launch v t turns call guest w given
-    pass_after_fork v w given is handed child =
-        subst (λ (x : Passing × (Passing × Result (Option (Passing × Guest)) NotMade)). IsForked launch x.0 t turns call guest x.1.0 x.1.1)
-        (λ i. (is i, (sym handed i, sym child i))) told_fork
-
-  module _ (guest : Guest) (after : List Entry) (result : Woken) (on : IsWokenOn launch current p t turns guest after result) where
-    on_wake : IsWokenOn launch log p t turns guest after result
-    on_wake = subst (λ (h : List Entry). IsWokenOn launch h p t turns guest after result) same on
-
-    told_wake : IsWoken launch (passing seen) t turns guest (passing after) result
-    told_wake = woken_tells launch begins (passing seen) t turns log was legal later guest after result on_wake
-
-    pub woken_is_seen : IsSeen launch p after
-    woken_is_seen = woken_seen launch begins (passing seen) t turns log was legal later guest after result told_wake
-
-    pub pass_after_wake : (v w : Passing) → passing seen ≡ v → w ≡ passing after → IsWoken launch v t turns guest w result
-    pass_after_wake v w is handed =
-        subst (λ (x : Passing × Passing). IsWoken launch x.0 t turns guest x.1 result) (λ i. (is i, sym handed i)) told_wake
-
-  module _ (how : EndBy) (after : List Entry) (result : Stopped) (on : IsStoppedOn launch current p t turns how after result) where
-    on_end : IsStoppedOn launch log p t turns how after result
-    on_end = subst (λ (h : List Entry). IsStoppedOn launch h p t turns how after result) same on
-
-    told_end : IsStopped launch (passing seen) t turns how (passing after) result
-    told_end = stopped_tells launch begins (passing seen) t turns log was legal later how after result on_end
-
-    pub stopped_is_seen : IsSeen launch p after
-    stopped_is_seen = stopped_seen launch begins (passing seen) t turns log was legal later how after result told_end
-
-    pub pass_after_end : (v w : Passing) → passing seen ≡ v → w ≡ passing after → IsStopped launch v t turns how w result
-    pass_after_end v w is handed =
-        subst (λ (x : Passing × Passing). IsStopped launch x.0 t turns how x.1 result) (λ i. (is i, sym handed i)) told_end
-
--- ---- equal histories and processes
-
-pub on_same : (P : List Entry → ℕ → List Entry → Type 0) (log old after new : List Entry) (p q : ℕ) → log ≡ old → p ≡ q → after ≡ new → P log p after
-    → P old q new
-on_same P log old after new p q before same behind on =
-    subst (λ (x : List Entry × ℕ × List Entry). P x.0 x.1 x.2) (λ i. (before i, same i, behind i)) on
+pub fork_seen : (launch : Launch) (log after : List Entry) (p t : ℕ) (body : Body) (call : Call) (body' : Body) (result : Came (Option (ℕ × Guest)))
+    (handed : Came (Option (Passing × Guest))) → IsForkedOn launch log p t body call body' after result → handed ≡ with_pass after result
+    → IsForkedOn launch log p t body call body' after (by_number handed) × HasSeen after handed
+fork_seen launch log after p t body call body' result handed on is =
+    subst (λ (x : Came (Option (Passing × Guest))). IsForkedOn launch log p t body call body' after (by_number x) × HasSeen after x) (sym is)
+    (subst (IsForkedOn launch log p t body call body' after) (sym (numbered after result)) on, seen_by_child after result)
 
 -- ---- a look
 
-pub pass_after_look : (launch : Launch) (p : ℕ) (seen log : List Entry) → IsSeen launch p seen → Legal launch log → Later p seen log → (v w : Passing)
-    → record { pid = p; seen = seen } ≡ v → w ≡ record { pid = p; seen = log } → Looked launch v w
-pass_after_look launch p seen log was legal later v w is handed =
-    subst (λ (x : Passing × Passing). Looked launch x.0 x.1) (λ i. (is i, sym handed i)) (record {
-      pid = refl;
-      seen = seen_since launch p seen log legal was later;
-      later = later;
-    })
+pub seen_since : (launch : Launch) (v : Passing) (log : List Entry) → Legal launch log → IsSeen launch v.pid v.seen → Later v.pid v.seen log → IsSeen launch v.pid log
+seen_since launch v log legal was later = record { legal = legal; made = made_since launch v.pid v.seen log legal later was.made }
+
+pub after_look : (launch : Launch) (u v w : Passing) (log : List Entry) → u ≡ v → Legal launch log → IsSeen launch u.pid u.seen → Later u.pid u.seen log
+    → w ≡ record { pid = u.pid; seen = log } → Looked launch v w
+after_look launch u v w log same legal was later is =
+    subst (λ (x : Passing × Passing). Looked launch x.0 x.1) (λ i. (same i, sym is i))
+    (record { pid = refl; seen = seen_since launch u log legal was later; later = later })
 
 -- whether the kernel has a process as live is whether its history has
 pub live_tells : (launch : Launch) (kernel : State) (log : List Entry) (b : Bool) (p : ℕ) (v w : Passing) → kernel ≡ (world launch log).state → p ≡ v.pid → w.seen ≡ log

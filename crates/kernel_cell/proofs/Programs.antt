@@ -25,7 +25,7 @@ use Rattle.call_codec.specs.Arguments.{args_of}
 use Rattle.call_codec.proofs.ProcessLaws.{exec_bounds}
 use Rattle.run_model.specs.World.{Guest, answered_guest, begun_guest, called_guest}
 use Rattle.guest_process.specs.Programs.{begun_by, CanBegin, MayBegin}
-use Rattle.kernel_cell.specs.Acting.{HasNoChild}
+use Rattle.kernel_cell.specs.Asking.{HasNoChild}
 
 -- a program that a step answers with is whole, and has a canary; and its argument data were read from the guest's memory
 pub may_begin : (m : Pages) (r : Registers) (left : ℕ) (constants : Constants) (S : State) (who : Who) (call : Call) (given : Answer) (T : State)

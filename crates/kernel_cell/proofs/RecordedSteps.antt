@@ -1,13 +1,14 @@
 -- What stands behind the lock as an entry is added, read off the kernel, the keeper and what is kept.
---     kernel_early, log_short, live_there, valid_there      the bounds, who is live, and that the state is valid
+--     kernel_early, log_short, constants_early, live_there, dead_there, few_there      the bounds, and who is live
+--     covers, times_there      the process that the keeper holds, and the times that come with an answer
 --     recorded_same      what stands there where no entry came
---     few_there      the number of the next thread is small
---     call_runs_there, other_there, number_there, fits_call, recorded_call, came_call, came_given, goes_call, keeps_call, acted_or_lost      a call
---     no_child, keeps_any      a call that makes no child, and what is left of its guest
---     waits_there, wake_can, wake_few, same_given, fits_wake, recorded_wake, keeps_none, woken_there, woken_not, woken_none      a wake
---     fits_end, recorded_end, stopped_done      an end from outside
+--     entered_on, fits_entry, recorded_entry      an entry of any act
+--     call_runs_there, other_there, number_there, call_fits, call_recorded, call_came      a call
+--     no_child, place_for      a call that makes no child, and the place of a thread that it made
+--     wake_can, wake_few, same_given, wake_fits, wake_recorded, wake_came, wake_not, wake_none      a wake
+--     end_fits, end_recorded, end_came      an end from outside
 --     fits_jump, recorded_jump, appends_jump, busy_there, stalled_there      an idle jump
-use Rattle.std.proofs.Common.{◌≡◌, ◌≢◌, inl, inr, ◌+◌, ◌-◌, ◌^◌, ◌<◌, ◌≤◌, ℕ, Bool, true, false, List, [], ◌∷◌, ◌++◌, length, Option, None, Some, IsSome, IsTrue, ◌↔◌, refl, sym, ap, subst, ◌∙◌, arith}
+use Rattle.std.proofs.Common.{◌≡◌, ◌≢◌, inl, inr, ◌+◌, ◌-◌, ◌^◌, ◌<◌, ◌≤◌, ℕ, Bool, true, false, List, [], ◌∷◌, ◌++◌, length, Contains, Option, None, Some, IsSome, IsTrue, ◌↔◌, refl, sym, ap, subst, ◌∙◌, arith}
 use Rattle.std.specs.Prelude.{Result, Ok, Err, OnErr, OnOk, is_ok}
 use Rattle.std.proofs.lemmas.Bool.Decides.{eqb_tells}
 use Rattle.std.specs.FinMap.{get}
@@ -34,7 +35,7 @@ use Rattle.call_codec.specs.Arguments.{args_of}
 use Rattle.call_codec.specs.Given.{given_of, CanWait}
 use Rattle.call_codec.specs.Put.{HasFewRanges}
 use Rattle.call_codec.proofs.Puts.{few_ranges}
-use Rattle.kernel_core.specs.Waiting.{caller, kept_call, waiter}
+use Rattle.kernel_core.specs.Waiting.{caller, kept_call, waiter, waits_until}
 use Rattle.kernel_model.specs.Deadlines.{idle_state}
 use Rattle.kernel_model.specs.Outcome.{is_parked}
 use Rattle.kernel_model.specs.State.{ProcessState, State, counts_in, thread_of}
@@ -42,10 +43,10 @@ use Rattle.kernel_model.specs.Step.{IsStep, end_state}
 use Rattle.kernel_model.specs.Threads.{child_told, ends_caller, ends_others, first_result, makes_thread, next_number, IsMoved}
 use Rattle.kernel_model.specs.Valid.{IsValid}
 use Rattle.kernel_model.specs.Waits.{WaitsIn}
-use Rattle.kernel_model.specs.Wakes.{is_ready, is_ready_as, IsStalled, IsWake, MayJump}
+use Rattle.kernel_model.specs.Wakes.{is_ready, is_ready_as, IsStalled, IsWake as IsWoken, MayJump}
 use Rattle.kernel_model.proofs.Tests.{not_true}
 use Rattle.kernel_model.proofs.ThreadLaws.{create_number}
-use Rattle.guest_process.specs.Room.{HasNumber, HasOther}
+use Rattle.guest_process.specs.Room.{HasNumber, HasOther, IsCreate}
 use Rattle.guest_process.specs.declared.room.NewThread.{NewThread}
 use Rattle.run_model.specs.Ends.{Stalled}
 use Rattle.run_model.specs.Legal.{FitsAct, Fits, IsRunnable}
@@ -59,19 +60,24 @@ use Rattle.run_model.proofs.Waited.{parked_is}
 use Rattle.run_model.proofs.Words.{few_of_call}
 use Rattle.run_model.proofs.WaitingRegisters.{may_can, waits_are_encoded, whole_keeps}
 use Rattle.run_model.proofs.Worlds.{world_is_valid}
-use Rattle.kernel_cell.specs.Acting.{AsksCall, AsksEnd, AsksWake, Appends, AppendsCall, AppendsWake, GoesOn, HasLeft, HasNoChild, HasStarted, IsAlone, IsDead, IsActedOn, IsIdledOn, IsStoppedOn, IsWokenOn, KeepsBut, KeepsGuest, KeepsTurns, WaitsOn, act_of, acted_so, call_end, end_of, status_of, unless_lost, woken_so}
 use Rattle.shared_history.specs.Entries.{head_of, entry_of, answered_call, idled}
 use Rattle.shared_history.specs.Kept.{Takes}
-use Rattle.kernel_cell.specs.Recorded.{IsRecorded}
+use Rattle.shared_history.specs.declared.entries.EntryHead.{EntryHead}
 use Rattle.shared_history.specs.declared.kept.Kept.{Kept}
-use Rattle.kernel_cell.specs.declared.results.Acted.{Acted}
-use Rattle.kernel_cell.specs.declared.results.CallEnd.{CallEnd}
-use Rattle.kernel_cell.specs.declared.results.CallEnd.TheVariants as ending
+use Rattle.kernel_cell.specs.Acting.{AreTimes, Became, Entered, GoesOn, HasEnded, HasLeft, HasStarted, IsAlone, IsDead, IsActedOn, IsIdledOn, KeepsBut, MayCome, WaitsOn}
+use Rattle.kernel_cell.specs.Afterwards.{act_of, after_call, after_wake, end_of, if_live, status_of, unless_lost}
+use Rattle.kernel_cell.specs.Asking.{Answers, AsksCall, AsksEnd, AsksWake, HasNoChild}
+use Rattle.kernel_cell.specs.Places.{Threads, with_made, without_place, HasPlace, IsPlaceFor}
+use Rattle.kernel_cell.specs.Recorded.{IsRecorded}
+use Rattle.kernel_cell.specs.declared.results.After.{After}
+use Rattle.kernel_cell.specs.declared.results.After.TheVariants as to
+use Rattle.kernel_cell.specs.declared.results.Asked.{Asked}
+use Rattle.kernel_cell.specs.declared.results.Asked.TheVariants as asked
+use Rattle.kernel_cell.specs.declared.results.Body.{Body}
+use Rattle.kernel_cell.specs.declared.results.Came.TheVariants as came
 use Rattle.kernel_cell.specs.declared.results.EndBy.{EndBy}
 use Rattle.kernel_cell.specs.declared.results.Idled.TheVariants as idle
-use Rattle.kernel_cell.specs.declared.results.Stopped.TheVariants as stopped
-use Rattle.kernel_cell.specs.declared.results.Woken.{Woken}
-use Rattle.kernel_cell.specs.declared.results.Woken.TheVariants as woken
+use Rattle.kernel_cell.specs.declared.results.Times.{Times}
 use Rattle.kernel_cell.proofs.EntryEffects.{recorded_next, entry_state, entry_fits, entry_dead, entry_goes, entry_has, entry_keeps, entry_left, entry_starts, entry_waits, call_runnable, call_leaves, call_answered, call_set, call_runs, call_waits, call_left, call_keeps, call_alone, call_makes, kept_waits, moved_same, waits_may, wake_leaves, wake_answered, wake_runs, wake_stays, wake_waits, end_leaves, end_answered, end_dead}
 
 -- a thread of which no call is kept isn't ready
@@ -121,31 +127,49 @@ pub no_child : (call : Call) (given : Answer) → HasNoChild call → child_told
 no_child (ProcFork left) given plain = absurd plain
 no_child _ given plain = refl
 
--- no turn waits for its entry where one came
-pub keeps_none : (guest after : Guest) (turns turns' : List ℕ) (result : Woken) (lives waits : Bool) → result ≡ woken_so lives waits → turns' ≡ []
-    → KeepsTurns guest after turns turns' result
-keeps_none guest after turns turns' result lives waits so none = subst (KeepsTurns guest after turns turns') (sym so) (by lives waits)
-  where
-    by : (live parks : Bool) → KeepsTurns guest after turns turns' (woken_so live parks)
-    by false parks = none
-    by true false = none
-    by true true = none
+-- the keeper holds the process of the entry
+pub covers : (held : List ℕ) (p q : ℕ) → held ≡ p ∷ [] → q ≡ p → Contains held q
+covers held p q one same = subst (λ (x : List ℕ × ℕ). Contains x.0 x.1) (λ i. (sym one i, sym same i)) (0, omega arith, refl)
 
--- the guest may change where an entry came
-pub keeps_any : {X E : Type 0} (guest after : Guest) (begun : Result X E) (result : Acted) (lives : Bool) (end : CallEnd) (next : ℕ)
-    → result ≡ unless_lost (is_ok begun) (acted_so lives end next) → KeepsGuest guest after result
-keeps_any guest after begun result lives end next so = subst (KeepsGuest guest after) (sym so) (by (is_ok begun) lives end)
-  where
-    by : (made live : Bool) (e : CallEnd) → KeepsGuest guest after (unless_lost made (acted_so live e next))
-    by false live e = tt
-    by true false e = tt
-    by true true ending.Runs = tt
-    by true true ending.Starts = tt
-    by true true ending.Parks = tt
-    by true true ending.Leaves = tt
-    by true true ending.Begins = tt
+-- ---- places
 
-module _ (launch : Launch) (all : Bool) (log : List Entry) (before : State) (constants : Constants) (kept : Kept)
+-- only a thread_create makes a thread
+makes_create : (call : Call) (given : Answer) → makes_thread call given ≡ true → IsCreate call
+makes_create (ThreadCreate attributes) given makes = tt
+makes_create _ given makes = absurd (not_true makes)
+
+place_by : (next : ℕ) (threads : Threads) (had live parks makes ends begins : Bool) → (makes ≡ true → IsSome (get threads next))
+    → IsPlaceFor next threads (unless_lost had (if_live live (end_of parks makes ends begins next)))
+place_by next threads false live parks makes ends begins there = tt
+place_by next threads true false parks makes ends begins there = tt
+place_by next threads true true true makes ends begins there = tt
+place_by next threads true true false true ends begins there = (refl, there refl)
+place_by next threads true true false false true begins there = tt
+place_by next threads true true false false false true there = tt
+place_by next threads true true false false false false there = tt
+
+-- a thread that was made has its place
+pub place_for : (call : Call) (given : Answer) (next : ℕ) (threads threads' : Threads) (placed had live : Bool) (end after : After)
+    → HasPlace call next threads placed threads' → end ≡ after_call call given next → after ≡ unless_lost had (if_live live end)
+    → IsPlaceFor next threads' after
+place_for call given next threads threads' placed had live end after place is so =
+    subst (IsPlaceFor next threads') (sym (so ∙ ap (λ x. unless_lost had (if_live live x)) is))
+    (place_by next threads' had live (is_parked given) (makes_thread call given) (ends_caller call given) (ends_others call given)
+    (λ makes. place.there (makes_create call given makes)))
+
+-- ---- what may come of a wake, which makes no thread
+
+may_wake : (live waits : Bool) → MayCome asked.Wakes (if_live live (after_wake waits))
+may_wake false waits = tt
+may_wake true false = tt
+may_wake true true = tt
+
+none_made : (live waits : Bool) (threads : Threads) → threads ≡ with_made (if_live live (after_wake waits)) threads
+none_made false waits threads = refl
+none_made true false threads = refl
+none_made true true threads = refl
+
+module _ {launch : Launch} {all : Bool} {log : List Entry} {before : State} {constants : Constants} {kept : Kept}
     (r : IsRecorded launch all log before constants kept) where
   abbrev w : World
   w = world launch log
@@ -171,6 +195,15 @@ module _ (launch : Launch) (all : Bool) (log : List Entry) (before : State) (con
 
   pub valid_there : IsValid w.state
   valid_there = world_is_valid launch log r.bounded.begins r.legal
+
+  -- the times that come with an answer
+  pub times_there : (p q t : ℕ) (h : List Entry) (times : Times) → times.moment ≡ before.clock → times.until ≡ waits_until (thread_of before p t) → h ≡ log
+      → p ≡ q → AreTimes launch h q t times
+  times_there p q t h times moment until seen same =
+      subst (λ (x : List Entry × ℕ). AreTimes launch x.0 x.1 t times) (λ i. (sym seen i, same i)) (record {
+        moment = moment ∙ ap (λ (S : State). S.clock) r.state;
+        until = until ∙ ap (λ (S : State). waits_until (thread_of S p t)) r.state;
+      })
 
   -- the number of a process's next thread
   pub few_there : (p : ℕ) → next_number before p < 2 ^ 32
@@ -205,35 +238,41 @@ module _ (launch : Launch) (all : Bool) (log : List Entry) (before : State) (con
 
   -- ---- an entry of any act
 
-  module _ (p t : ℕ) (turns : List ℕ) (a : Act) (kernel : State) (moment : ℕ) (moment_is : moment ≡ kernel.clock)
+  module _ (p t : ℕ) (turns : List ℕ) (a : Act) (kernel : State) (head : EntryHead) (head_is : head ≡ head_of kernel.clock p t turns)
       (leaves : (acted (turned w p turns) (thread_at w.state p t) a).state ≡ kernel) (live : is_idle a ≡ false → IsLiveIn w p)
       (fits : FitsAct launch.constants w.state (thread_at w.state p t) (guest_of w p) turns a) where
     abbrev entry : Entry
-    entry = entry_of (head_of moment p t turns) a
+    entry = entry_of (head_of kernel.clock p t turns) a
 
-    same_entry : entry_of (head_of kernel.clock p t turns) a ≡ entry
-    same_entry = ap (λ m. entry_of (head_of m p t turns) a) (sym moment_is)
+    same_entry : entry ≡ entry_of head a
+    same_entry = ap (λ (h : EntryHead). entry_of h a) (sym head_is)
 
-    fits_entry : Fits w entry
-    fits_entry = subst (Fits w) same_entry (entry_fits launch log p t turns a kernel leaves live fits)
+    fits_here : Fits w entry
+    fits_here = entry_fits launch log p t turns a kernel leaves live fits
 
-    module _ (after : List Entry) (last : after ≡ log ++ entry ∷ []) where
-      appends_entry : Appends launch log entry after
-      appends_entry = record { fits = fits_entry; last = last }
+    fits_entry : Fits w (entry_of head a)
+    fits_entry = subst (Fits w) same_entry fits_here
 
-      recorded_entry : (kept' : Kept) → Takes entry kept kept' → IsRecorded launch all after kernel constants kept'
+    module _ (after : List Entry) (last : after ≡ log ++ entry_of head a ∷ []) where
+      last_here : after ≡ log ++ entry ∷ []
+      last_here = last ∙ ap (λ (e : Entry). log ++ e ∷ []) (sym same_entry)
+
+      entered_on : (what : Asked) → Answers what a → Entered launch log p t turns what after
+      entered_on what answers = record { act = a; answers = answers; moment = kernel.clock; fits = fits_here; last = last_here }
+
+      recorded_entry : (kept' : Kept) → Takes (entry_of head a) kept kept' → IsRecorded launch all after kernel constants kept'
       recorded_entry kept' took =
-          subst (λ (h : List Entry). IsRecorded launch all h kernel constants kept') (sym last)
-          (recorded_next launch all log before constants kept entry kernel kept' r fits_entry
-          (subst (λ (e : Entry). (apply w e).state ≡ kernel) same_entry (entry_state launch log p t turns a kernel leaves)) took)
+          subst (λ (h : List Entry). IsRecorded launch all h kernel constants kept') (sym last_here)
+          (recorded_next launch all log before constants kept entry kernel kept' r fits_here (entry_state launch log p t turns a kernel leaves)
+          (subst (λ (e : Entry). Takes e kept kept') (sym same_entry) took))
 
       -- what holds of the history with the entry
-      entry_there : (P : List Entry → Type 0) → P (log ++ entry_of (head_of kernel.clock p t turns) a ∷ []) → P after
-      entry_there P here = subst P (sym (last ∙ ap (λ (e : Entry). log ++ e ∷ []) (sym same_entry))) here
+      entry_there : (P : List Entry → Type 0) → P (log ++ entry ∷ []) → P after
+      entry_there P here = subst P (sym last_here) here
 
   -- ---- a call
 
-  module _ (p t : ℕ) (turns : List ℕ) (call : Call) (guest : Guest) (a : AsksCall w p t turns guest call) where
+  module _ {p t : ℕ} {turns : List ℕ} {call : Call} {guest : Guest} (a : AsksCall w p t turns guest call) where
     pub call_runs_there : IsRunnable before p t
     call_runs_there = subst (λ (S : State). IsRunnable S p t) (sym r.state) (call_runnable w p t turns guest call a)
 
@@ -248,7 +287,7 @@ module _ (launch : Launch) (all : Bool) (log : List Entry) (before : State) (con
     number_there given kernel next thread step is number makes =
         subst (λ n. HasNumber n thread) (is ∙ sym (create_number constants before (caller before p t) call given kernel step makes).0) number
 
-    module _ (given : Answer) (kernel : State) (moment : ℕ) (moment_is : moment ≡ kernel.clock)
+    module _ (given : Answer) (kernel : State) (head : EntryHead) (head_is : head ≡ head_of kernel.clock p t turns)
         (step : IsStep constants before (caller before p t) call given kernel) (live : IsLiveIn w p) where
       pub step_there : IsStep launch.constants w.state (caller w.state p t) call given kernel
       step_there = there (λ c S. IsStep c S (caller S p t) call given kernel) step
@@ -262,24 +301,19 @@ module _ (launch : Launch) (all : Bool) (log : List Entry) (before : State) (con
       answered_there : FitsAct launch.constants w.state (thread_at w.state p t) (guest_of w p) turns call_act
       answered_there = call_answered launch log p t turns call given guest kernel a step_there
 
-      pub fits_call : Fits w (answered_call (head_of moment p t turns) call None given)
-      fits_call = fits_entry p t turns call_act kernel moment moment_is leaves_call (λ _. live) answered_there
+      pub call_fits : Fits w (answered_call head call None given)
+      call_fits = fits_entry p t turns call_act kernel head head_is leaves_call (λ _. live) answered_there
 
-      module _ (after : List Entry) (last : after ≡ log ++ answered_call (head_of moment p t turns) call None given ∷ []) where
-        pub recorded_call : (kept' : Kept) → Takes (answered_call (head_of moment p t turns) call None given) kept kept'
-            → IsRecorded launch all after kernel constants kept'
-        recorded_call kept' took = recorded_entry p t turns call_act kernel moment moment_is leaves_call (λ _. live) answered_there after last kept' took
+      module _ (after : List Entry) (last : after ≡ log ++ answered_call head call None given ∷ []) where
+        pub call_recorded : (kept' : Kept) → Takes (answered_call head call None given) kept kept' → IsRecorded launch all after kernel constants kept'
+        call_recorded kept' took = recorded_entry p t turns call_act kernel head head_is leaves_call (λ _. live) answered_there after last kept' took
 
-        pub came_call : AppendsCall launch log p t turns call after
-        came_call = record {
-          moment = moment;
-          given = given;
-          came = appends_entry p t turns call_act kernel moment moment_is leaves_call (λ _. live) answered_there after last;
-        }
+        pub call_entered : Entered launch log p t turns (asked.Calls call) after
+        call_entered = entered_on p t turns call_act kernel head head_is leaves_call (λ _. live) answered_there after last (asked.Calls call) (given, refl)
 
-        pub came_given : came_call.given ≡ given
-        unfolding came_call
-        came_given = refl
+        pub entered_is : call_entered.act ≡ call_act
+        unfolding call_entered entered_on
+        entered_is = refl
 
         module _ (guest' : Guest) (is : guest' ≡ answered_guest p guest t call given) where
           abbrev changed : Guest → Guest
@@ -289,30 +323,30 @@ module _ (launch : Launch) (all : Bool) (log : List Entry) (before : State) (con
           set_call = call_set launch log p t turns call given guest kernel a step_there valid_there live
 
           -- what holds of the history after the call
-          after_call : (P : List Entry → Type 0) → P (log ++ entry_of (head_of kernel.clock p t turns) call_act ∷ []) → P after
-          after_call P here = entry_there p t turns call_act kernel moment moment_is leaves_call (λ _. live) answered_there after last P here
+          after_this : (P : List Entry → Type 0) → P (log ++ entry_of (head_of kernel.clock p t turns) call_act ∷ []) → P after
+          after_this P here = entry_there p t turns call_act kernel head head_is leaves_call (λ _. live) answered_there after last P here
 
           pub goes_call : get kernel.statuses p ≡ Some Live → is_parked given ≡ false → ends_caller call given ≡ false → GoesOn launch after p t guest'
           goes_call on replies lasts =
-              after_call (λ h. GoesOn launch h p t guest')
+              after_this (λ h. GoesOn launch h p t guest')
               (entry_goes launch log p t turns call_act kernel leaves_call changed guest a.guest_is set_call guest' is on
               (call_runs launch log p t turns call given guest kernel a step_there replies lasts on))
 
           waits_call : get kernel.statuses p ≡ Some Live → is_parked given ≡ true → WaitsOn launch after p t guest'
           waits_call on parks =
               let thread = call_waits launch log p t turns call given guest kernel a step_there parks on in
-              after_call (λ h. WaitsOn launch h p t guest')
+              after_this (λ h. WaitsOn launch h p t guest')
               (entry_waits launch log p t turns call_act kernel leaves_call changed guest a.guest_is set_call guest' is on thread.0 thread.1 thread.2)
 
           leaves_caller : get kernel.statuses p ≡ Some Live → ends_caller call given ≡ true → HasLeft launch after p t guest'
           leaves_caller on ends =
-              after_call (λ h. HasLeft launch h p t guest')
+              after_this (λ h. HasLeft launch h p t guest')
               (entry_left launch log p t turns call_act kernel leaves_call changed guest a.guest_is set_call guest' is on
               (call_left launch log p t turns call given guest kernel a step_there ends on))
 
           pub keeps_call : get kernel.statuses p ≡ Some Live → makes_thread call given ≡ false → ends_others call given ≡ false → KeepsBut launch log after p t
           keeps_call on makes stay =
-              after_call (λ h. KeepsBut launch log h p t)
+              after_this (λ h. KeepsBut launch log h p t)
               (entry_keeps launch log p t turns call_act kernel leaves_call t
               (λ u apart. call_keeps launch log p t turns call given guest kernel a step_there stay on u apart
               (λ does. absurd (not_true (sym makes ∙ does)))))
@@ -320,7 +354,7 @@ module _ (launch : Launch) (all : Bool) (log : List Entry) (before : State) (con
           -- where another program begins no other thread is left
           alone_call : get kernel.statuses p ≡ Some Live → ends_others call given ≡ true → IsAlone launch after p t
           alone_call on begins =
-              after_call (λ h. IsAlone launch h p t)
+              after_this (λ h. IsAlone launch h p t)
               (λ u apart. entry_has launch log p t turns call_act kernel leaves_call (λ S. thread_of S p u ≡ None)
               (call_alone launch log p t turns call given guest kernel a step_there begins on u apart))
 
@@ -341,57 +375,69 @@ module _ (launch : Launch) (all : Bool) (log : List Entry) (before : State) (con
           starts_call next number on replies makes =
               let made = call_makes launch log p t turns call given guest kernel a step_there makes on in
               subst (HasStarted launch log after p) (sym (numbered_there p next number))
-              (after_call (λ h. HasStarted launch log h p (next_number w.state p))
+              (after_this (λ h. HasStarted launch log h p (next_number w.state p))
               (entry_starts launch log p t turns call_act kernel leaves_call (next_number w.state p) made.0 refl made.1
               (keeps_maker on replies makes)))
 
-          acted_by : (next : ℕ) → next ≡ next_number before p → (lives parks makes ends begins : Bool) → is_parked given ≡ parks
+          became_by : (next : ℕ) → next ≡ next_number before p → (lives parks makes ends begins : Bool) → is_parked given ≡ parks
               → makes_thread call given ≡ makes → ends_caller call given ≡ ends → ends_others call given ≡ begins
               → (IsTrue lives ↔ (get kernel.statuses p ≡ Some Live))
-              → IsActedOn launch log p t turns call guest' after (acted_so lives (end_of parks makes ends begins) next)
-          acted_by next number false parks makes ends begins waits made left anew on = (
-            came_call,
-            after_call (λ h. IsDead launch h p) (entry_dead launch log p t turns call_act kernel leaves_call (λ alive. not_true (on.1 alive))),
-          )
-          acted_by next number true true makes ends begins waits made left anew on =
+              → Became launch log p t after guest' call_act (if_live lives (end_of parks makes ends begins next))
+          became_by next number false parks makes ends begins waits made left anew on =
+              after_this (λ h. IsDead launch h p) (entry_dead launch log p t turns call_act kernel leaves_call (λ alive. not_true (on.1 alive)))
+          became_by next number true true makes ends begins waits made left anew on =
               let writes = parked_is given waits in (
-                came_call,
                 waits_call (on.0 refl) waits,
                 keeps_call (on.0 refl) (ap (makes_thread call) writes.1 ∙ parked_makes call writes.0)
                     (ap (ends_others call) writes.1 ∙ parked_stays call writes.0),
               )
-          acted_by next number true false true ends begins waits made left anew on =
-              (came_call, goes_call (on.0 refl) waits (makes_lasts call given made), starts_call next number (on.0 refl) waits made)
-          acted_by next number true false false true begins waits made left anew on =
-              (came_call, leaves_caller (on.0 refl) left, keeps_call (on.0 refl) made (leaves_stays call given left))
-          acted_by next number true false false false true waits made left anew on =
-              (came_call, goes_call (on.0 refl) waits left, alone_call (on.0 refl) anew)
-          acted_by next number true false false false false waits made left anew on =
-              (came_call, goes_call (on.0 refl) waits left, keeps_call (on.0 refl) made anew)
-
-          acted_there : (result : Acted) (lives : Bool) (end : CallEnd) (next : ℕ) → result ≡ acted_so lives end next → end ≡ call_end call given
-              → next ≡ next_number before p → (IsTrue lives ↔ (get kernel.statuses p ≡ Some Live)) → IsActedOn launch log p t turns call guest' after result
-          acted_there result lives end next so same number on =
-              subst (IsActedOn launch log p t turns call guest' after) (sym (so ∙ ap (λ x. acted_so lives x next) same))
-              (acted_by next number lives (is_parked given) (makes_thread call given) (ends_caller call given) (ends_others call given) refl refl refl refl on)
+          became_by next number true false true ends begins waits made left anew on =
+              (goes_call (on.0 refl) waits (makes_lasts call given made), starts_call next number (on.0 refl) waits made)
+          became_by next number true false false true begins waits made left anew on =
+              (leaves_caller (on.0 refl) left, keeps_call (on.0 refl) made (leaves_stays call given left))
+          became_by next number true false false false true waits made left anew on =
+              (goes_call (on.0 refl) waits left, alone_call (on.0 refl) anew)
+          became_by next number true false false false false waits made left anew on =
+              (goes_call (on.0 refl) waits left, keeps_call (on.0 refl) made anew)
 
         -- where there was no memory for a program, its entry came
-        pub acted_or_lost : {X E : Type 0} (guest' : Guest) (begun : Result X E) → OnOk begun (guest' ≡ answered_guest p guest t call given)
-            → OnErr begun (ends_others call given ≡ true) → (result : Acted) (lives : Bool) (end : CallEnd) (next : ℕ) → result ≡ unless_lost (is_ok begun) (acted_so lives end next)
-            → end ≡ call_end call given → next ≡ next_number before p → (IsTrue lives ↔ (get kernel.statuses p ≡ Some Live))
-            → IsActedOn launch log p t turns call guest' after result
-        acted_or_lost guest' (Ok done) is begins result lives end next so same number on = acted_there guest' is result lives end next so same number on
-        acted_or_lost guest' (Err lack) is begins result lives end next so same number on =
-            subst (IsActedOn launch log p t turns call guest' after) (sym so) (came_call, ap (ends_others call) came_given ∙ begins)
+        became_or_lost : {X E : Type 0} (guest' : Guest) (begun : Result X E) → OnOk begun (guest' ≡ answered_guest p guest t call given)
+            → OnErr begun (ends_others call given ≡ true) → (lives : Bool) (next : ℕ) → next ≡ next_number before p
+            → (IsTrue lives ↔ (get kernel.statuses p ≡ Some Live))
+            → Became launch log p t after guest' call_act (unless_lost (is_ok begun) (if_live lives (after_call call given next)))
+        became_or_lost guest' (Ok done) is begins lives next number on =
+            became_by guest' is next number lives (is_parked given) (makes_thread call given) (ends_caller call given) (ends_others call given) refl refl refl refl on
+        became_or_lost guest' (Err lack) is begins lives next number on = begins
+
+        pub call_came : {X E : Type 0} (guest' : Guest) (begun : Result X E) → OnOk begun (guest' ≡ answered_guest p guest t call given)
+            → OnErr begun (ends_others call given ≡ true) → (result end : After) (lives : Bool) (next : ℕ) (threads threads' made : Threads) (none : List ℕ) (placed : Bool)
+            → result ≡ unless_lost (is_ok begun) (if_live lives end) → end ≡ after_call call given next → next ≡ next_number before p
+            → (IsTrue lives ↔ (get kernel.statuses p ≡ Some Live)) → none ≡ [] → HasPlace call next threads placed made
+            → threads' ≡ with_made result (without_place next placed made)
+            → IsActedOn launch log p t (record { guest = guest; threads = threads; turns = turns }) (asked.Calls call)
+            (record { guest = guest'; threads = threads'; turns = none }) after (came.Done result)
+        unfolding call_entered entered_on
+        call_came guest' begun is begins result end lives next threads threads' made none placed so same number on empty place threads_are = record {
+          came = (
+            call_entered,
+            (
+              tt,
+              subst (Became launch log p t after guest' call_act) (sym (so ∙ ap (λ x. unless_lost (is_ok begun) (if_live lives x)) same))
+                  (became_or_lost guest' begun is begins lives next number on),
+            ),
+          );
+          kept = (empty, threads_are ∙ ap (with_made result) place.without);
+          unanswered = tt;
+        }
 
   -- ---- a wake
 
-  module _ (p t : ℕ) (turns : List ℕ) (guest : Guest) (a : AsksWake w p t turns guest) (call : Call)
+  module _ {p t : ℕ} {turns : List ℕ} {guest : Guest} (a : AsksWake w p t turns guest) (call : Call)
       (kept_is : Some call ≡ kept_call (thread_of before p t)) where
     abbrev sleeper : Who
     sleeper = thread_at w.state p t
 
-    pub waits_there : WaitsIn w.state sleeper call
+    waits_there : WaitsIn w.state sleeper call
     waits_there = kept_waits w.state p t call (thread_of w.state p t) refl (there (λ c S. Some call ≡ kept_call (thread_of S p t)) kept_is)
 
     -- in the kernel's own state too
@@ -415,17 +461,17 @@ module _ (launch : Launch) (all : Bool) (log : List Entry) (before : State) (con
         (encoded.2.1 ∙ ap (λ (r : Registers). args_of encoded.0 r encoded.2.0) (sym (ap (λ (g : Guest). registers_of g t) a.guest_is
         ∙ whole_keeps w.state p (guest_of w p) turns t a.waits.thread a.whole a.waits.there a.waits.waits))))
 
-    module _ (given : WakeIn) (given_is : given ≡ given_of guest.memory (registers_of guest t) call) (answered : Answer) (kernel : State) (moment : ℕ)
-        (moment_is : moment ≡ kernel.clock) (ready : is_ready constants before p t ≡ true)
+    module _ (given : WakeIn) (given_is : given ≡ given_of guest.memory (registers_of guest t) call) (answered : Answer) (kernel : State)
+        (head : EntryHead) (head_is : head ≡ head_of kernel.clock p t turns) (ready : is_ready constants before p t ≡ true)
         (is_wake : (since : ℕ) (stage : Stage) → WaitsIn before (waiter p t since stage) call
-        → IsWake constants before (waiter p t since stage) call given answered kernel) (live : IsLiveIn w p) where
+        → IsWoken constants before (waiter p t since stage) call given answered kernel) (live : IsLiveIn w p) where
       ready_there : is_ready launch.constants w.state p t ≡ true
       ready_there = there (λ c S. is_ready c S p t ≡ true) ready
 
-      wake_there : IsWake launch.constants w.state sleeper call given answered kernel
+      wake_there : IsWoken launch.constants w.state sleeper call given answered kernel
       wake_there =
-          there (λ c S. IsWake c S sleeper call given answered kernel)
-          (subst (λ (x : Who). IsWake constants before x call given answered kernel) same_sleeper (is_wake sleeper.since waits_there.1 waits_here))
+          there (λ c S. IsWoken c S sleeper call given answered kernel)
+          (subst (λ (x : Who). IsWoken constants before x call given answered kernel) same_sleeper (is_wake sleeper.since waits_there.1 waits_here))
 
       abbrev wake_act : Act
       wake_act = act.Wake call given answered
@@ -436,30 +482,21 @@ module _ (launch : Launch) (all : Bool) (log : List Entry) (before : State) (con
       answered_wake : FitsAct launch.constants w.state sleeper (guest_of w p) turns wake_act
       answered_wake = wake_answered launch log p t turns call given answered guest kernel a valid_there waits_there given_is ready_there wake_there
 
-      pub fits_wake : Fits w (answered_call (head_of moment p t turns) call (Some given) answered)
-      fits_wake = fits_entry p t turns wake_act kernel moment moment_is leaves_wake (λ _. live) answered_wake
+      pub wake_fits : Fits w (answered_call head call (Some given) answered)
+      wake_fits = fits_entry p t turns wake_act kernel head head_is leaves_wake (λ _. live) answered_wake
 
-      module _ (after : List Entry) (last : after ≡ log ++ answered_call (head_of moment p t turns) call (Some given) answered ∷ []) where
-        pub recorded_wake : (kept' : Kept) → Takes (answered_call (head_of moment p t turns) call (Some given) answered) kept kept'
+      module _ (after : List Entry) (last : after ≡ log ++ answered_call head call (Some given) answered ∷ []) where
+        pub wake_recorded : (kept' : Kept) → Takes (answered_call head call (Some given) answered) kept kept'
             → IsRecorded launch all after kernel constants kept'
-        recorded_wake kept' took = recorded_entry p t turns wake_act kernel moment moment_is leaves_wake (λ _. live) answered_wake after last kept' took
-
-        appends_wake : AppendsWake launch log p t turns after
-        appends_wake = record {
-          moment = moment;
-          call = call;
-          given = given;
-          answered = answered;
-          came = appends_entry p t turns wake_act kernel moment moment_is leaves_wake (λ _. live) answered_wake after last;
-        }
+        wake_recorded kept' took = recorded_entry p t turns wake_act kernel head head_is leaves_wake (λ _. live) answered_wake after last kept' took
 
         -- what holds of the history after the wake
-        after_wake : (P : List Entry → Type 0) → P (log ++ entry_of (head_of kernel.clock p t turns) wake_act ∷ []) → P after
-        after_wake P here = entry_there p t turns wake_act kernel moment moment_is leaves_wake (λ _. live) answered_wake after last P here
+        after_that : (P : List Entry → Type 0) → P (log ++ entry_of (head_of kernel.clock p t turns) wake_act ∷ []) → P after
+        after_that P here = entry_there p t turns wake_act kernel head head_is leaves_wake (λ _. live) answered_wake after last P here
 
         keeps_wake : get kernel.statuses p ≡ Some Live → KeepsBut launch log after p t
         keeps_wake on =
-            after_wake (λ h. KeepsBut launch log h p t)
+            after_that (λ h. KeepsBut launch log h p t)
             (entry_keeps launch log p t turns wake_act kernel leaves_wake t
             (wake_stays launch log p t turns call given answered guest kernel a valid_there waits_there given_is ready_there wake_there on))
 
@@ -469,47 +506,55 @@ module _ (launch : Launch) (all : Bool) (log : List Entry) (before : State) (con
         module _ (guest' : Guest) (is : guest' ≡ called_guest guest t call answered) where
           goes_wake : get kernel.statuses p ≡ Some Live → is_parked answered ≡ false → GoesOn launch after p t guest'
           goes_wake on replies =
-              after_wake (λ h. GoesOn launch h p t guest')
+              after_that (λ h. GoesOn launch h p t guest')
               (entry_goes launch log p t turns wake_act kernel leaves_wake (λ g. called_guest g t call answered) guest a.guest_is set_wake guest' is on
               (wake_runs launch log p t turns call given answered guest kernel a valid_there waits_there given_is ready_there wake_there replies on))
 
           waits_wake : get kernel.statuses p ≡ Some Live → is_parked answered ≡ true → WaitsOn launch after p t guest'
           waits_wake on parks =
               let thread = wake_waits launch log p t turns call given answered guest kernel a valid_there waits_there given_is ready_there wake_there parks on in
-              after_wake (λ h. WaitsOn launch h p t guest')
+              after_that (λ h. WaitsOn launch h p t guest')
               (entry_waits launch log p t turns wake_act kernel leaves_wake (λ g. called_guest g t call answered) guest a.guest_is set_wake guest' is on
               thread.0 thread.1 thread.2)
 
           woken_by : (lives waits : Bool) → is_parked answered ≡ waits → (IsTrue lives ↔ (get kernel.statuses p ≡ Some Live))
-              → IsWokenOn launch log p t turns guest' after (woken_so lives waits)
-          woken_by false waits parks on = (
-            appends_wake,
-            after_wake (λ h. IsDead launch h p) (entry_dead launch log p t turns wake_act kernel leaves_wake (λ alive. not_true (on.1 alive))),
-          )
-          woken_by true false parks on = (appends_wake, goes_wake (on.0 refl) parks, keeps_wake (on.0 refl))
-          woken_by true true parks on = (appends_wake, waits_wake (on.0 refl) parks, keeps_wake (on.0 refl))
+              → Became launch log p t after guest' wake_act (if_live lives (after_wake waits))
+          woken_by false waits parks on =
+              after_that (λ h. IsDead launch h p) (entry_dead launch log p t turns wake_act kernel leaves_wake (λ alive. not_true (on.1 alive)))
+          woken_by true false parks on = (goes_wake (on.0 refl) parks, keeps_wake (on.0 refl))
+          woken_by true true parks on = (waits_wake (on.0 refl) parks, keeps_wake (on.0 refl))
 
-          pub woken_there : (result : Woken) (lives waits : Bool) → result ≡ woken_so lives waits → waits ≡ is_parked answered
-              → (IsTrue lives ↔ (get kernel.statuses p ≡ Some Live)) → IsWokenOn launch log p t turns guest' after result
-          woken_there result lives waits so parks on =
-              subst (IsWokenOn launch log p t turns guest' after) (sym so) (woken_by lives waits (sym parks) on)
+          pub wake_came : (result end : After) (lives : Bool) (threads : Threads) (none : List ℕ) → result ≡ if_live lives end
+              → end ≡ after_wake (is_parked answered) → (IsTrue lives ↔ (get kernel.statuses p ≡ Some Live)) → none ≡ []
+              → IsActedOn launch log p t (record { guest = guest; threads = threads; turns = turns }) asked.Wakes
+              (record { guest = guest'; threads = threads; turns = none }) after (came.Done result)
+          unfolding entered_on
+          wake_came result end lives threads none so same on empty =
+              subst (λ (x : After). IsActedOn launch log p t (record { guest = guest; threads = threads; turns = turns }) asked.Wakes
+              (record { guest = guest'; threads = threads; turns = none }) after (came.Done x)) (sym (so ∙ ap (if_live lives) same)) (record {
+                came = (
+                  entered_on p t turns wake_act kernel head head_is leaves_wake (λ _. live) answered_wake after last asked.Wakes (call, given, answered, refl),
+                  (may_wake lives (is_parked answered), woken_by lives (is_parked answered) refl on),
+                );
+                kept = (empty, none_made lives (is_parked answered) threads);
+                unanswered = tt;
+              })
 
   -- the thread waits on
-  pub woken_not : (p t : ℕ) (turns : List ℕ) (guest : Guest) (after : List Entry) → after ≡ log → IsLiveIn w p → is_ready constants before p t ≡ false
-      → IsWokenOn launch log p t turns guest after woken.NotReady
-  woken_not p t turns guest after same live not = (same, (live, there (λ c S. is_ready c S p t ≡ false) not))
+  pub wake_not : (p t : ℕ) (body : Body) (after : List Entry) → after ≡ log → IsLiveIn w p → is_ready constants before p t ≡ false
+      → IsActedOn launch log p t body asked.Wakes body after came.NotReady
+  wake_not p t body after same live not = record { came = (same, (live, there (λ c S. is_ready c S p t ≡ false) not), tt); kept = refl; unanswered = tt }
 
   -- it waits in no call
-  pub woken_none : (p t : ℕ) (turns : List ℕ) (guest : Guest) (after : List Entry) → after ≡ log → IsLiveIn w p → None ≡ kept_call (thread_of before p t)
-      → IsWokenOn launch log p t turns guest after woken.NotReady
-  woken_none p t turns guest after same live none =
-      woken_not p t turns guest after same live (none_ready constants before p t (thread_of before p t) none)
+  pub wake_none : (p t : ℕ) (body : Body) (after : List Entry) → after ≡ log → IsLiveIn w p → None ≡ kept_call (thread_of before p t)
+      → IsActedOn launch log p t body asked.Wakes body after came.NotReady
+  wake_none p t body after same live none = wake_not p t body after same live (none_ready constants before p t (thread_of before p t) none)
 
   -- ---- an end from outside
 
   module _ (p t : ℕ) (turns : List ℕ) (how : EndBy) (status : Status) (status_is : status ≡ status_of how) (a : Act) (act_is : a ≡ act_of how)
-      (kernel : State) (ended : kernel ≡ end_state before p status) (moment : ℕ) (moment_is : moment ≡ kernel.clock) (live : IsLiveIn w p)
-      (asks : AsksEnd w p t turns how) where
+      (kernel : State) (ended : kernel ≡ end_state before p status) (head : EntryHead) (head_is : head ≡ head_of kernel.clock p t turns)
+      (live : IsLiveIn w p) (asks : AsksEnd w p t turns how) where
     ended_there : kernel ≡ end_state w.state p (status_of how)
     ended_there = ended ∙ (λ i. end_state (r.state i) p (status_is i))
 
@@ -519,34 +564,34 @@ module _ (launch : Launch) (all : Bool) (log : List Entry) (before : State) (con
     answered_end : FitsAct launch.constants w.state (thread_at w.state p t) (guest_of w p) turns (act_of how)
     answered_end = end_answered launch log p t turns how kernel ended_there asks
 
-    same_end : entry_of (head_of moment p t turns) (act_of how) ≡ entry_of (head_of moment p t turns) a
-    same_end = ap (entry_of (head_of moment p t turns)) (sym act_is)
+    same_end : entry_of head (act_of how) ≡ entry_of head a
+    same_end = ap (entry_of head) (sym act_is)
 
-    pub fits_end : Fits w (entry_of (head_of moment p t turns) a)
-    fits_end = subst (Fits w) same_end (fits_entry p t turns (act_of how) kernel moment moment_is leaves_end (λ _. live) answered_end)
+    pub end_fits : Fits w (entry_of head a)
+    end_fits = subst (Fits w) same_end (fits_entry p t turns (act_of how) kernel head head_is leaves_end (λ _. live) answered_end)
 
-    module _ (after : List Entry) (last : after ≡ log ++ entry_of (head_of moment p t turns) a ∷ []) where
-      last_end : after ≡ log ++ entry_of (head_of moment p t turns) (act_of how) ∷ []
+    module _ (after : List Entry) (last : after ≡ log ++ entry_of head a ∷ []) where
+      last_end : after ≡ log ++ entry_of head (act_of how) ∷ []
       last_end = last ∙ ap (λ (e : Entry). log ++ e ∷ []) (sym same_end)
 
-      pub recorded_end : (kept' : Kept) → Takes (entry_of (head_of moment p t turns) a) kept kept' → IsRecorded launch all after kernel constants kept'
-      recorded_end kept' took =
-          recorded_entry p t turns (act_of how) kernel moment moment_is leaves_end (λ _. live) answered_end after last_end kept'
+      pub end_recorded : (kept' : Kept) → Takes (entry_of head a) kept kept' → IsRecorded launch all after kernel constants kept'
+      end_recorded kept' took =
+          recorded_entry p t turns (act_of how) kernel head head_is leaves_end (λ _. live) answered_end after last_end kept'
           (subst (λ (e : Entry). Takes e kept kept') (sym same_end) took)
 
-      pub stopped_done : IsStoppedOn launch log p t turns how after stopped.Done
-      stopped_done = (
-        record {
-          moment = moment;
-          came = appends_entry p t turns (act_of how) kernel moment moment_is leaves_end (λ _. live) answered_end after last_end;
-        },
-        entry_there p t turns (act_of how) kernel moment moment_is leaves_end (λ _. live) answered_end after last_end (λ h. IsDead launch h p)
+      pub end_came : HasEnded launch log p t turns how after
+      end_came = (
+        entered_on p t turns (act_of how) kernel head head_is leaves_end (λ _. live) answered_end after last_end (asked.Ends how) refl,
+        entry_there p t turns (act_of how) kernel head head_is leaves_end (λ _. live) answered_end after last_end (λ h. IsDead launch h p)
             (entry_dead launch log p t turns (act_of how) kernel leaves_end (end_dead launch log p t turns how kernel ended_there)),
       )
 
   -- ---- an idle jump
 
   module _ (kernel : State) (jumped : kernel ≡ idle_state before) (may : MayJump constants before) (moment : ℕ) (moment_is : moment ≡ kernel.clock) where
+    head_jump : head_of moment 0 0 [] ≡ head_of kernel.clock 0 0 []
+    head_jump = ap (λ (m : ℕ). head_of m 0 0 []) moment_is
+
     leaves_jump : (acted (turned w 0 []) (thread_at w.state 0 0) act.Idle).state ≡ kernel
     leaves_jump = sym (jumped ∙ ap idle_state r.state)
 
@@ -554,15 +599,16 @@ module _ (launch : Launch) (all : Bool) (log : List Entry) (before : State) (con
     answered_jump = ((refl, refl, refl), there MayJump may)
 
     pub fits_jump : Fits w (idled moment)
-    fits_jump = fits_entry 0 0 [] act.Idle kernel moment moment_is leaves_jump (λ busy. absurd (not_true (sym busy))) answered_jump
+    fits_jump = fits_entry 0 0 [] act.Idle kernel (head_of moment 0 0 []) head_jump leaves_jump (λ busy. absurd (not_true (sym busy))) answered_jump
 
     module _ (after : List Entry) (last : after ≡ log ++ idled moment ∷ []) where
       pub recorded_jump : (kept' : Kept) → Takes (idled moment) kept kept' → IsRecorded launch all after kernel constants kept'
       recorded_jump kept' took =
-          recorded_entry 0 0 [] act.Idle kernel moment moment_is leaves_jump (λ busy. absurd (not_true (sym busy))) answered_jump after last kept' took
+          recorded_entry 0 0 [] act.Idle kernel (head_of moment 0 0 []) head_jump leaves_jump (λ busy. absurd (not_true (sym busy))) answered_jump after last kept'
+          took
 
       pub appends_jump : IsIdledOn launch log after idle.Jumped
-      appends_jump = record { moment = moment; came = record { fits = fits_jump; last = last } }
+      appends_jump = record { moment = moment; fits = fits_jump; last = last }
 
   pub stalled_there : (after : List Entry) → after ≡ log → IsStalled constants before → IsIdledOn launch log after idle.Stalled
   stalled_there after same stalled = (same, stalled_world (there IsStalled stalled))

@@ -50,9 +50,9 @@ use Rattle.shared_history.specs.declared.passes.Naming.{Ghosts}
 use Rattle.shared_history.proofs.keeper.Keeper.TheSendSync as keepers
 use Rattle.shared_history.proofs.kept.Kept.TheSendSync as kept
 use Rattle.shared_history.proofs.passes.Passes.TheSendSync as passes
-use Rattle.kernel_cell.specs.contracts.recorded.Recorded as recorded
 use Rattle.kernel_cell.specs.contracts.locked.Locked as locked
-use Rattle.kernel_cell.specs.contracts.locked.Locked.TheInside as locked_inside
+use Rattle.kernel_cell.specs.contracts.cell.Guarded as guarded
+use Rattle.kernel_cell.specs.contracts.cell.Guarded.TheInside as guarded_inside
 use Rattle.kernel_cell.specs.contracts.cell.Cell as cell
 
 usize_send : IsSend usize
@@ -149,11 +149,11 @@ kernel_send = view_send _ _ _ _ _ (declared_send kernel_inside.the_type (
 ))
 
 module _ (J : RattleType) (g : Ghosts J.Denot) where
-  recorded_send : IsSend (recorded.the_row J g)
-  recorded_send = declared_send (recorded.the_type J g) (kernel_send, (constants.the_send, (keepers.the_send J g, (kept.the_send, tt))))
-
   locked_send : IsSend (locked.the_row J g)
-  locked_send = view_send _ _ _ _ _ (declared_send (locked_inside.the_type J g) (recorded_send, tt))
+  locked_send = declared_send (locked.the_type J g) (kernel_send, (constants.the_send, (keepers.the_send J g, (kept.the_send, (heap.the_send, tt)))))
+
+  guarded_send : IsSend (guarded.the_row J g)
+  guarded_send = view_send _ _ _ _ _ (declared_send (guarded_inside.the_type J g) (locked_send, tt))
 
   pub cell_sync : IsSync (cell.the_row J g)
-  cell_sync = declared_sync (cell.the_type J g) (passes.the_sync J g, (mutexes.the_sync (locked.the_row J g) locked_send, (launch_sync, tt)))
+  cell_sync = declared_sync (cell.the_type J g) (passes.the_sync J g, (mutexes.the_sync (guarded.the_row J g) guarded_send, (launch_sync, tt)))

@@ -1,3 +1,7 @@
+pub mod Afterwards
+pub mod Places
+pub mod Asking
 pub mod Acting
+pub mod Handing
 pub mod Recorded
 pub mod Cell

@@ -1,15 +1,17 @@
 //! The kernel behind its lock, as threads share it, from the begin of a run to its book.
-ghost use Rattle.std.specs.Prelude.{◌≡◌, ◌↔◌, [], IfOk, IfSome, IsNone, IsTrue};
+ghost use Rattle.std.specs.Prelude.{◌≡◌, ◌↔◌, [], IfOk, IsTrue};
 ghost use Rattle.call_codec.specs.Bounded.{IsBounded};
 ghost use Rattle.run_model.specs.Own.{IsLiveIn};
 ghost use Rattle.run_model.specs.World.{world};
 ghost use Rattle.guest_process.specs.Children.{IsFork};
-ghost use Rattle.kernel_cell.specs.Acting.{AsksCall, AsksEnd, AsksWake, HasNoChild, Looked, IsActed, IsForked, IsNextThread, IsStopped, IsWoken, KeepsTurns};
+ghost use Rattle.kernel_cell.specs.declared.results.Asked.TheVariants as asked;
+ghost use Rattle.kernel_cell.specs.Acting.{AreTimes, IsActed, IsForked, Looked};
+ghost use Rattle.kernel_cell.specs.Asking.{Asks, AsksCall};
 ghost use Rattle.kernel_cell.specs.Cell.{IsBookOf};
 
 use crate::locked::Locked;
-use crate::results::{Acted, EndBy, Idled, NotMade, Stopped, Times, Woken};
-use abi_types::{Call, Pid, Tid, TidList};
+use crate::results::{After, Asked, Body, Came, EndBy, Idled, Times};
+use abi_types::{Call, Tid};
 use atomic_table::{Seat, Table};
 use guest_process::{FIRST, Guest};
 use kernel_core::Kernel;
@@ -27,6 +29,7 @@ pub struct Begun {
     kernel: Kernel,
     launch: Launch,
     kept: Kept,
+    alloc: Global,
 }
 
 impl Model for Begun {
@@ -58,6 +61,7 @@ impl Begun {
             kernel,
             launch,
             kept: Kept::new(alloc, all),
+            alloc,
         })
     }
 
@@ -74,25 +78,50 @@ impl Begun {
             kernel,
             launch,
             kept,
+            alloc,
         } = self;
         let passes = Passes::new(table);
         let mut keeper = Keeper::new(seat);
         let pass = keeper.hand_out(&passes, FIRST);
-        let locked = Locked::new(kernel, launch.constants, keeper, kept);
+        let locked = Locked {
+            kernel,
+            constants: launch.constants,
+            keeper,
+            kept,
+            alloc,
+        };
         let cell = Cell {
             passes,
-            locked: Mutex::new(locked),
+            guarded: Mutex::new(Guarded { locked }),
             launch,
         };
         (cell, pass)
     }
 }
 
+// What stands behind the lock. Its history is legal, and the kernel's state is its world's.
+#[derive(Drop)]
+struct Guarded<J: Naming> {
+    locked: Locked<J>,
+}
+
+impl<J: Naming> Model for Guarded<J> {
+    ghost use Rattle.std.specs.Prelude.{List};
+    ghost use Rattle.run_types.specs.declared.history.Entry.{Entry};
+    ghost use Rattle.kernel_cell.specs.Recorded.{IsRecorded};
+
+    ghost Value = { List Entry };
+
+    ghost view = { λ g. g.locked.keeper.log };
+
+    ghost invariant = { λ g. IsRecorded J.launch J.keeps_all g.locked.keeper.log g.locked.kernel g.locked.constants g.locked.kept };
+}
+
 /// A run's kernel with its history behind a lock, and the table of its passes. The threads of a run share it.
 #[derive(Drop)]
 pub struct Cell<J: Naming> {
     passes: Passes<J>,
-    locked: Mutex<Locked<J>>,
+    guarded: Mutex<Guarded<J>>,
     launch: Launch,
     ghost launch_is: { launch ≡ J.launch },
 }
@@ -114,87 +143,88 @@ impl<J: Naming> Cell<J> {
         &self.launch
     }
 
-    /// A thread's call after these turns of its process. The guest is the process's at that call, and gets the answer.
+    /// A thread's call, which is no proc_fork, after the turns of its process that no entry has yet. Its guest is the process's at that call,
+    /// and gets the answer.
     pub fn act<R: Wait>(
         &self,
         rt: &R,
         pass: &mut Pass<J>,
-        alloc: Global,
+        body: &mut Body,
         tid: Tid,
-        turns: TidList,
         call: Call,
-        guest: &mut Guest,
-    ) -> Acted
-        requires asks { AsksCall (world J.launch pass.old.seen) pass.old.pid tid turns guest.old call }
-        requires plain { HasNoChild call }
-        ensures { IsActed J.launch pass.old tid turns call guest.new pass.new result }
+    ) -> (Came<After>, Times)
+        requires { Asks (world J.launch pass.old.seen) pass.old.pid tid body.old (asked.Calls call) }
+        ensures acted { IsActed J.launch pass.old tid body.old (asked.Calls call) body.new pass.new result.0 }
+        ensures times { AreTimes J.launch pass.new.seen pass.old.pid tid result.1 }
     {
-        self.locked
+        self.guarded
             .lock(rt)
-            .act(&self.passes, pass, alloc, tid, turns, call, guest)
+            .locked
+            .act(&self.passes, pass, body, tid, Asked::Calls(call))
     }
 
-    /// A thread's proc_fork after these turns of its process. The guest is the process's at that call, and gets the answer. With the
-    /// child's pass comes the guest that the child begins with.
+    /// A thread's proc_fork, after the turns of its process that no entry has yet. Its guest is the process's at that call, and gets the
+    /// answer. With the child's pass comes the guest that the child begins with.
     pub fn fork<R: Wait>(
         &self,
         rt: &R,
         pass: &mut Pass<J>,
-        alloc: Global,
+        body: &mut Body,
         tid: Tid,
-        turns: TidList,
         call: Call,
-        guest: &mut Guest,
-    ) -> Result<Option<(Pass<J>, Guest)>, NotMade>
-        requires asks { AsksCall (world J.launch pass.old.seen) pass.old.pid tid turns guest.old call }
+    ) -> (Came<Option<(Pass<J>, Guest)>>, Times)
+        requires asks { AsksCall (world J.launch pass.old.seen) pass.old.pid tid body.old.turns body.old.guest call }
         requires fork { IsFork call }
-        ensures { IsForked J.launch pass.old tid turns call guest.new pass.new result }
+        ensures forked { IsForked J.launch pass.old tid body.old call body.new pass.new result.0 }
+        ensures times { AreTimes J.launch pass.new.seen pass.old.pid tid result.1 }
     {
-        self.locked
+        self.guarded
             .lock(rt)
-            .fork(&self.passes, pass, alloc, tid, turns, call, guest)
+            .locked
+            .fork(&self.passes, pass, body, tid, call)
     }
 
-    /// The wake of a thread that waits, after these turns of its process. The guest is the process's after them, and gets the answer to
-    /// the call that the thread waited in: a reply, or the words that are written where the thread waits on.
+    /// The wake of a thread that waits, after the turns of its process that no entry has yet. Its guest is the process's after them, and gets
+    /// the answer to the call that the thread waited in: a reply, or the words that are written where the thread waits on.
     pub fn wake<R: Wait>(
         &self,
         rt: &R,
         pass: &mut Pass<J>,
-        alloc: Global,
+        body: &mut Body,
         tid: Tid,
-        turns: &mut TidList,
-        guest: &mut Guest,
-    ) -> Woken
-        requires { AsksWake (world J.launch pass.old.seen) pass.old.pid tid turns.old guest.old }
-        ensures pass { IsWoken J.launch pass.old tid turns.old guest.new pass.new result }
-        ensures turns { KeepsTurns guest.old guest.new turns.old turns.new result }
+    ) -> (Came<After>, Times)
+        requires { Asks (world J.launch pass.old.seen) pass.old.pid tid body.old asked.Wakes }
+        ensures woken { IsActed J.launch pass.old tid body.old asked.Wakes body.new pass.new result.0 }
+        ensures times { AreTimes J.launch pass.new.seen pass.old.pid tid result.1 }
     {
-        self.locked
+        self.guarded
             .lock(rt)
-            .wake(&self.passes, pass, alloc, tid, turns, guest)
+            .locked
+            .act(&self.passes, pass, body, tid, Asked::Wakes)
     }
 
-    /// Lets time go to the next deadline where no thread takes turns or is ready.
-    pub fn idle<R: Wait>(&self, rt: &R, alloc: Global) -> Idled {
-        self.locked.lock(rt).idle(&self.passes, alloc)
-    }
-
-    /// The end of a thread's process from outside, after these turns of it.
+    /// The end of a thread's process from outside, after the turns of it that no entry has yet.
     pub fn end<R: Wait>(
         &self,
         rt: &R,
         pass: &mut Pass<J>,
+        body: &mut Body,
         tid: Tid,
-        turns: TidList,
         how: EndBy,
-    ) -> Stopped
-        requires { AsksEnd (world J.launch pass.old.seen) pass.old.pid tid turns how }
-        ensures { IsStopped J.launch pass.old tid turns how pass.new result }
+    ) -> (Came<After>, Times)
+        requires { Asks (world J.launch pass.old.seen) pass.old.pid tid body.old (asked.Ends how) }
+        ensures ended { IsActed J.launch pass.old tid body.old (asked.Ends how) body.new pass.new result.0 }
+        ensures times { AreTimes J.launch pass.new.seen pass.old.pid tid result.1 }
     {
-        self.locked
+        self.guarded
             .lock(rt)
-            .end(&self.passes, pass, tid, turns, how)
+            .locked
+            .act(&self.passes, pass, body, tid, Asked::Ends(how))
+    }
+
+    /// Lets time go to the next deadline where no thread takes turns or is ready. With what became of it comes the moment then.
+    pub fn idle<R: Wait>(&self, rt: &R) -> (Idled, u64) {
+        self.guarded.lock(rt).locked.idle(&self.passes)
     }
 
     /// Whether the pass's process is live.
@@ -202,36 +232,12 @@ impl<J: Naming> Cell<J> {
         ensures pass { Looked J.launch pass.old pass.new }
         ensures live { IsTrue result ↔ IsLiveIn (world J.launch pass.new.seen) pass.old.pid }
     {
-        self.locked.lock(rt).look(&self.passes, pass)
-    }
-
-    /// The number that the next thread of the pass's process gets. `None` where the process has ended.
-    pub fn next_thread<R: Wait>(&self, rt: &R, pass: &mut Pass<J>) -> Option<Tid>
-        ensures pass { Looked J.launch pass.old pass.new }
-        ensures some { IfSome result (λ next. IsNextThread J.launch pass.new.seen pass.old.pid next) }
-        ensures none { IsNone result → ¬ IsLiveIn (world J.launch pass.new.seen) pass.old.pid }
-    {
-        self.locked.lock(rt).next_thread(&self.passes, pass)
-    }
-
-    /// The moment now, in nanoseconds since the run began.
-    pub fn moment<R: Wait>(&self, rt: &R) -> u64 {
-        self.locked.lock(rt).moment()
-    }
-
-    /// The moment now, until when a thread waits, and the threads to be looked at again. Who gets these is to have them looked at.
-    pub fn times<R: Wait>(&self, rt: &R, pid: Pid, tid: Tid) -> Times {
-        self.locked.lock(rt).times(pid, tid)
-    }
-
-    /// Whether some thread is to be looked at again.
-    pub fn has_wakes<R: Wait>(&self, rt: &R) -> bool {
-        self.locked.lock(rt).has_wakes()
+        self.guarded.lock(rt).locked.look(&self.passes, pass)
     }
 
     /// Takes back the pass of a process that needs it no more.
     pub fn spend<R: Wait>(&self, rt: &R, pass: Pass<J>) {
-        self.locked.lock(rt).spend(&self.passes, pass);
+        self.guarded.lock(rt).locked.spend(&self.passes, pass);
     }
 
     /// The book of the run, once no thread shares it any more.
@@ -240,14 +246,21 @@ impl<J: Naming> Cell<J> {
     {
         let Cell {
             passes: _,
-            locked,
+            guarded,
             launch,
         } = self;
-        let (kernel, history, kept) = locked.into_inner().into_parts();
+        let Guarded { locked } = guarded.into_inner();
+        let Locked {
+            kernel,
+            constants: _,
+            keeper,
+            kept,
+            alloc: _,
+        } = locked;
         Book {
             kernel,
             launch,
-            history,
+            history: keeper.into_past(),
             kept,
         }
     }

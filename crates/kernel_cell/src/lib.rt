@@ -4,11 +4,12 @@
 pub use cell::{Begun, Book, Cell};
 pub use locked::Locked;
 pub use record::Record;
-pub use results::{Acted, EndBy, Idled, NotMade, Stopped, Times, Woken};
+pub use results::{After, Asked, Body, Came, Doing, EndBy, Idled, Times};
 pub use shared_history::{Kept, Naming, Pass, Passes, Past};
 
+mod afterwards;
 mod cell;
 mod locked;
+mod places;
 mod record;
-mod recorded;
 mod results;

@@ -1,266 +1,350 @@
-//! What stands behind the kernel lock. Each call here takes a process's pass in, does what it does, and hands the pass out
-//! again.
-ghost use Rattle.std.specs.Prelude.{◌≡◌, ◌↔◌, IfSome, IsNone, IsTrue};
+//! The kernel with its history: what threads ask for is done by the kernel, and becomes an entry. Each call here takes a process's pass in,
+//! does what it does, and hands the pass out again.
+ghost use Rattle.std.specs.Prelude.{◌≡◌, ◌↔◌, [], ◌∷◌, IsTrue};
+ghost use Rattle.guest_process.specs.Children.{IsFork};
+ghost use Rattle.kernel_core.specs.Waiting.{waits_until};
+ghost use Rattle.kernel_model.specs.State.{thread_of};
 ghost use Rattle.run_model.specs.Own.{IsLiveIn};
 ghost use Rattle.run_model.specs.World.{world};
-ghost use Rattle.guest_process.specs.Children.{IsFork};
+ghost use Rattle.shared_history.specs.Kept.{HasRoom};
+ghost use Rattle.kernel_cell.specs.declared.results.Asked.TheVariants as asked;
+ghost use Rattle.kernel_cell.specs.Acting.{AreTimes, HasEnded, Looked, IsActed, IsActedOn, IsForked, IsForkedOn, IsIdledOn};
+ghost use Rattle.kernel_cell.specs.Asking.{Asks, AsksCall, AsksEnd, AsksWake, HasNoChild};
+ghost use Rattle.kernel_cell.specs.Handing.{held_after, held_without, with_pass, MayHandOut};
 ghost use Rattle.kernel_cell.specs.Recorded.{IsRecorded};
-ghost use Rattle.kernel_cell.specs.Acting.{AreTimes, AsksCall, AsksEnd, AsksWake, HasNoChild, Looked, held_without, with_pass, IsActed, IsActedOn, IsForked, IsIdledOn, IsNextThread, IsStopped, IsStoppedOn, IsWoken, IsWokenOn, KeepsGuest, KeepsTurns, MayHandOut};
 
-use crate::recorded::Recorded;
-use crate::results::{Acted, EndBy, Idled, NotMade, Stopped, Times, Woken};
+use crate::afterwards::{
+    act_of, after_call, after_wake, child_guest, child_told, if_live, status_of, unless_lost,
+};
+use crate::places::{keep_place, leave_place, make_place};
+use crate::results::{After, Asked, Body, Came, EndBy, Idled, Times};
 use abi_types::{Call, Constants, Pid, Tid, TidList};
 use guest_process::Guest;
 use kernel_core::Kernel;
-use shared_history::{Keeper, Kept, Naming, Pass, Passes, Past};
+use shared_history::{EntryHead, Keeper, Kept, Naming, Pass, Passes, idle_entry};
 use std::alloc::Global;
-use std::marker::Model;
+use std::mem;
 
-/// The kernel with its history. Contracts see the history, which is always legal, and whose world's state is the kernel's.
+/// The kernel, the keeper of its history, and what is kept of the history in memory. Between two calls the history is legal, and the kernel's
+/// state is its world's.
 #[derive(Drop)]
 pub struct Locked<J: Naming> {
-    recorded: Recorded<J>,
+    pub kernel: Kernel,
+    pub constants: Constants,
+    pub keeper: Keeper<J>,
+    pub kept: Kept,
+    pub alloc: Global,
 }
 
-impl<J: Naming> Model for Locked<J> {
-    ghost use Rattle.std.specs.Prelude.{List};
-    ghost use Rattle.run_types.specs.declared.history.Entry.{Entry};
-    ghost use Rattle.kernel_cell.specs.Recorded.{IsRecorded};
-
-    ghost Value = { List Entry };
-
-    ghost view = { λ k. k.recorded.keeper.log };
-
-    ghost invariant = { λ k. IsRecorded J.launch J.keeps_all k.recorded.keeper.log k.recorded.kernel k.recorded.constants k.recorded.kept };
+// The moment now, until when a thread waits, and the threads to be looked at again, which none is then.
+fn times(kernel: &mut Kernel, pid: Pid, tid: Tid) -> Times
+    ensures moment { result.moment ≡ kernel.old.clock }
+    ensures until { result.until ≡ waits_until (thread_of kernel.old pid tid) }
+    ensures same { kernel.new ≡ kernel.old }
+{
+    Times {
+        moment: kernel.moment(),
+        until: kernel.until(pid, tid),
+        wakes: kernel.take_wakes(),
+    }
 }
 
 // The pass and the guest of the child, if there is one, whose pass the keeper hands out.
 fn with_pass<J: Naming>(
     keeper: &mut Keeper<J>,
     passes: &Passes<J>,
-    forked: Result<Option<(Pid, Guest)>, NotMade>,
-) -> Result<Option<(Pass<J>, Guest)>, NotMade>
+    forked: Came<Option<(Pid, Guest)>>,
+) -> Came<Option<(Pass<J>, Guest)>>
     requires { MayHandOut J.launch keeper.old forked }
     ensures keeper { keeper.new ≡ record { log = keeper.old.log; held = held_without forked keeper.old.held } }
     ensures pass { result ≡ with_pass keeper.old.log forked }
 {
     match forked {
-        Ok(Some((child, guest))) => {
+        Came::Done(Some((child, guest))) => {
             let pass = keeper.hand_out(passes, child);
-            Ok(Some((pass, guest)))
+            Came::Done(Some((pass, guest)))
         }
-        Ok(None) => Ok(None),
-        Err(not_made) => Err(not_made),
+        Came::Done(None) => Came::Done(None),
+        Came::NotReady => Came::NotReady,
+        Came::Gone => Came::Gone,
+        Came::NoMemory => Came::NoMemory,
     }
 }
 
 impl<J: Naming> Locked<J> {
-    /// A kernel at the start of its launch, without an entry.
-    pub(crate) fn new(
-        kernel: Kernel,
-        constants: Constants,
-        keeper: Keeper<J>,
-        kept: Kept,
-    ) -> Locked<J>
-        requires { IsRecorded J.launch J.keeps_all keeper.log kernel constants kept }
-        ensures { result ≡ keeper.log }
-    {
-        Locked {
-            recorded: Recorded {
-                kernel,
-                constants,
-                keeper,
-                kept,
-            },
-        }
-    }
-
-    /// The kernel, the history, and what was kept of it.
-    pub(crate) fn into_parts(self) -> (Kernel, Past, Kept)
-        ensures history { result.1 ≡ self }
-        ensures constants { IsRecorded J.launch J.keeps_all result.1 result.0 J.launch.constants result.2 }
-    {
-        let Recorded {
-            kernel,
-            constants: _,
-            keeper,
-            kept,
-        } = self.recorded;
-        (kernel, keeper.into_past(), kept)
-    }
-
-    /// A thread's call after these turns of its process. The guest is the process's at that call, and gets the answer.
+    /// What a thread asks for, after the turns of its process that no entry has yet. Its guest is the process's at that, and gets the answer.
     pub fn act(
         &mut self,
         passes: &Passes<J>,
         pass: &mut Pass<J>,
-        alloc: Global,
+        body: &mut Body,
         tid: Tid,
-        turns: TidList,
-        call: Call,
-        guest: &mut Guest,
-    ) -> Acted
-        requires asks { AsksCall (world J.launch pass.old.seen) pass.old.pid tid turns guest.old call }
-        requires plain { HasNoChild call }
-        ensures pass { IsActed J.launch pass.old tid turns call guest.new pass.new result }
-        ensures history { IsActedOn J.launch self.old pass.old.pid tid turns call guest.new self.new result }
-        ensures guest { KeepsGuest guest.old guest.new result }
-        ensures seen { pass.new.seen ≡ self.new }
+        what: Asked,
+    ) -> (Came<After>, Times)
+        requires recorded { IsRecorded J.launch J.keeps_all self.old.keeper.log self.old.kernel self.old.constants self.old.kept }
+        requires asks { Asks (world J.launch pass.old.seen) pass.old.pid tid body.old what }
+        ensures recorded { IsRecorded J.launch J.keeps_all self.new.keeper.log self.new.kernel self.new.constants self.new.kept }
+        ensures pass { IsActed J.launch pass.old tid body.old what body.new pass.new result.0 }
+        ensures history { IsActedOn J.launch self.old.keeper.log pass.old.pid tid body.old what body.new self.new.keeper.log result.0 }
+        ensures seen { pass.new.seen ≡ self.new.keeper.log }
+        ensures times { AreTimes J.launch pass.new.seen pass.old.pid tid result.1 }
     {
         let pid = pass.pid;
-        self.recorded
-            .keeper
+        self.keeper
             .take_in(passes, Pass::lent(pid, &mut pass.badge));
-        let acted = self
-            .recorded
-            .call(passes, alloc, pid, tid, turns, call, guest);
-        *pass = self.recorded.keeper.hand_out(passes, pid);
-        acted
+        let came = self.enter(passes, pid, tid, body, what);
+        *pass = self.keeper.hand_out(passes, pid);
+        (came, times(&mut self.kernel, pid, tid))
     }
 
-    /// A thread's proc_fork after these turns of its process. The guest is the process's at that call, and gets the answer. With the
-    /// child's pass comes the guest that the child begins with.
+    // The same, while the keeper holds the process. The room for the entry is taken before.
+    fn enter(
+        &mut self,
+        passes: &Passes<J>,
+        pid: Pid,
+        tid: Tid,
+        body: &mut Body,
+        what: Asked,
+    ) -> Came<After>
+        requires recorded { IsRecorded J.launch J.keeps_all self.old.keeper.log self.old.kernel self.old.constants self.old.kept }
+        requires held { self.old.keeper.held ≡ pid ∷ [] }
+        requires asks { IsLiveIn (world J.launch self.old.keeper.log) pid → Asks (world J.launch self.old.keeper.log) pid tid body.old what }
+        ensures recorded { IsRecorded J.launch J.keeps_all self.new.keeper.log self.new.kernel self.new.constants self.new.kept }
+        ensures held { self.new.keeper.held ≡ pid ∷ [] }
+        ensures came { IsActedOn J.launch self.old.keeper.log pid tid body.old what body.new self.new.keeper.log result }
+    {
+        if !self.kernel.live(pid) {
+            return Came::Gone;
+        }
+        let Ok(()) = self.kept.reserve() else {
+            return Came::NoMemory;
+        };
+        match what {
+            Asked::Calls(call) => self.call(passes, pid, tid, body, call),
+            Asked::Wakes => self.wake(passes, pid, tid, body),
+            Asked::Ends(how) => {
+                self.end(passes, pid, tid, &mut body.turns, how);
+                Came::Done(After::Ended)
+            }
+        }
+    }
+
+    // The head of the entry that is now, with the turns that no entry had.
+    fn head(&self, pid: Pid, tid: Tid, turns: &mut TidList) -> EntryHead
+        ensures head { result ≡ record { moment = self.now.kernel.clock; pid = pid; tid = tid; turns = turns.old } }
+        ensures none { turns.new ≡ [] }
+    {
+        EntryHead {
+            moment: self.kernel.moment(),
+            pid,
+            tid,
+            turns: mem::replace(turns, TidList::new(self.alloc)),
+        }
+    }
+
+    // A thread's call, whose answer its guest gets. The room for it, and the place for the thread that it may make, are taken before, so no
+    // answer is lost for lack of it.
+    fn call(
+        &mut self,
+        passes: &Passes<J>,
+        pid: Pid,
+        tid: Tid,
+        body: &mut Body,
+        call: Call,
+    ) -> Came<After>
+        requires recorded { IsRecorded J.launch J.keeps_all self.old.keeper.log self.old.kernel self.old.constants self.old.kept }
+        requires held { self.old.keeper.held ≡ pid ∷ [] }
+        requires room { HasRoom self.old.kept }
+        requires live { IsLiveIn (world J.launch self.old.keeper.log) pid }
+        requires asks { AsksCall (world J.launch self.old.keeper.log) pid tid body.old.turns body.old.guest call }
+        requires plain { HasNoChild call }
+        ensures recorded { IsRecorded J.launch J.keeps_all self.new.keeper.log self.new.kernel self.new.constants self.new.kept }
+        ensures held { self.new.keeper.held ≡ pid ∷ [] }
+        ensures came { IsActedOn J.launch self.old.keeper.log pid tid body.old (asked.Calls call) body.new self.new.keeper.log result }
+    {
+        let next = self.kernel.next_thread(pid);
+        let Ok(placed) = make_place(&mut body.threads, &call, next) else {
+            return Came::NoMemory;
+        };
+        let Ok(room) = body.guest.make_room(self.alloc, &call, next) else {
+            leave_place(&mut body.threads, next, placed);
+            return Came::NoMemory;
+        };
+        let answer = self.kernel.step(&self.constants, pid, tid, &call);
+        body.guest.answer(tid, &call, &answer, room);
+        let begun = body.guest.begin(self.alloc, pid, tid, &call, &answer);
+        let after = after_call(&call, &answer, next);
+        let head = self.head(pid, tid, &mut body.turns);
+        self.keeper.append_call(passes, &head, &call, None, &answer);
+        self.kept.take_call(head, call, None, answer);
+        let after = unless_lost(begun, if_live(self.kernel.live(pid), after));
+        keep_place(&mut body.threads, next, placed, &after);
+        Came::Done(after)
+    }
+
+    // The wake of a thread, whose guest gets the answer to the call that the thread waited in: a reply, or the words that are written where
+    // the thread waits on.
+    fn wake(&mut self, passes: &Passes<J>, pid: Pid, tid: Tid, body: &mut Body) -> Came<After>
+        requires recorded { IsRecorded J.launch J.keeps_all self.old.keeper.log self.old.kernel self.old.constants self.old.kept }
+        requires held { self.old.keeper.held ≡ pid ∷ [] }
+        requires room { HasRoom self.old.kept }
+        requires live { IsLiveIn (world J.launch self.old.keeper.log) pid }
+        requires asks { AsksWake (world J.launch self.old.keeper.log) pid tid body.old.turns body.old.guest }
+        ensures recorded { IsRecorded J.launch J.keeps_all self.new.keeper.log self.new.kernel self.new.constants self.new.kept }
+        ensures held { self.new.keeper.held ≡ pid ∷ [] }
+        ensures came { IsActedOn J.launch self.old.keeper.log pid tid body.old asked.Wakes body.new self.new.keeper.log result }
+    {
+        let Some(kept) = self.kernel.kept(pid, tid) else {
+            return Came::NotReady;
+        };
+        let given = body.guest.given(tid, kept);
+        let Some((call, answer)) = self.kernel.wake(&self.constants, pid, tid, given) else {
+            return Came::NotReady;
+        };
+        body.guest.answer_woken(tid, &call, &answer);
+        let after = after_wake(&answer);
+        let head = self.head(pid, tid, &mut body.turns);
+        self.keeper
+            .append_call(passes, &head, &call, Some(given), &answer);
+        self.kept.take_call(head, call, Some(given), answer);
+        Came::Done(if_live(self.kernel.live(pid), after))
+    }
+
+    // The end of a process from outside, by a thread of it.
+    fn end(&mut self, passes: &Passes<J>, pid: Pid, tid: Tid, turns: &mut TidList, how: EndBy)
+        requires recorded { IsRecorded J.launch J.keeps_all self.old.keeper.log self.old.kernel self.old.constants self.old.kept }
+        requires held { self.old.keeper.held ≡ pid ∷ [] }
+        requires room { HasRoom self.old.kept }
+        requires live { IsLiveIn (world J.launch self.old.keeper.log) pid }
+        requires asks { AsksEnd (world J.launch self.old.keeper.log) pid tid turns.old how }
+        ensures recorded { IsRecorded J.launch J.keeps_all self.new.keeper.log self.new.kernel self.new.constants self.new.kept }
+        ensures held { self.new.keeper.held ≡ pid ∷ [] }
+        ensures ended { HasEnded J.launch self.old.keeper.log pid tid turns.old how self.new.keeper.log }
+        ensures none { turns.new ≡ [] }
+    {
+        self.kernel.end(pid, status_of(how));
+        let entry = self.head(pid, tid, turns).with(act_of(how));
+        self.keeper.append(passes, &entry);
+        self.kept.take(entry);
+    }
+
+    /// A thread's proc_fork, after the turns of its process that no entry has yet. Its guest is the process's at that, and gets the answer.
+    /// With the child's pass comes the guest that the child begins with.
     pub fn fork(
         &mut self,
         passes: &Passes<J>,
         pass: &mut Pass<J>,
-        alloc: Global,
+        body: &mut Body,
         tid: Tid,
-        turns: TidList,
         call: Call,
-        guest: &mut Guest,
-    ) -> Result<Option<(Pass<J>, Guest)>, NotMade>
-        requires asks { AsksCall (world J.launch pass.old.seen) pass.old.pid tid turns guest.old call }
+    ) -> (Came<Option<(Pass<J>, Guest)>>, Times)
+        requires recorded { IsRecorded J.launch J.keeps_all self.old.keeper.log self.old.kernel self.old.constants self.old.kept }
+        requires asks { AsksCall (world J.launch pass.old.seen) pass.old.pid tid body.old.turns body.old.guest call }
         requires fork { IsFork call }
-        ensures pass { IsForked J.launch pass.old tid turns call guest.new pass.new result }
-        ensures seen { pass.new.seen ≡ self.new }
+        ensures recorded { IsRecorded J.launch J.keeps_all self.new.keeper.log self.new.kernel self.new.constants self.new.kept }
+        ensures pass { IsForked J.launch pass.old tid body.old call body.new pass.new result.0 }
+        ensures seen { pass.new.seen ≡ self.new.keeper.log }
+        ensures times { AreTimes J.launch pass.new.seen pass.old.pid tid result.1 }
     {
         let pid = pass.pid;
-        self.recorded
-            .keeper
+        self.keeper
             .take_in(passes, Pass::lent(pid, &mut pass.badge));
-        let forked = self
-            .recorded
-            .fork(passes, alloc, pid, tid, turns, call, guest);
-        let child = with_pass(&mut self.recorded.keeper, passes, forked);
-        *pass = self.recorded.keeper.hand_out(passes, pid);
-        child
+        let forked = self.make_child(passes, pid, tid, body, call);
+        let child = with_pass(&mut self.keeper, passes, forked);
+        *pass = self.keeper.hand_out(passes, pid);
+        (child, times(&mut self.kernel, pid, tid))
     }
 
-    /// The wake of a thread that waits, after these turns of its process. The guest is the process's after them, and gets the answer to
-    /// the call that the thread waited in: a reply, or the words that are written where the thread waits on.
-    pub fn wake(
+    // The same, while the keeper holds the process. The child's guest is made before, where there may be a child, since the call's entry
+    // stands whatever comes after it. The keeper holds the child then too.
+    fn make_child(
         &mut self,
         passes: &Passes<J>,
-        pass: &mut Pass<J>,
-        alloc: Global,
+        pid: Pid,
         tid: Tid,
-        turns: &mut TidList,
-        guest: &mut Guest,
-    ) -> Woken
-        requires { AsksWake (world J.launch pass.old.seen) pass.old.pid tid turns.old guest.old }
-        ensures pass { IsWoken J.launch pass.old tid turns.old guest.new pass.new result }
-        ensures history { IsWokenOn J.launch self.old pass.old.pid tid turns.old guest.new self.new result }
-        ensures turns { KeepsTurns guest.old guest.new turns.old turns.new result }
-        ensures seen { pass.new.seen ≡ self.new }
+        body: &mut Body,
+        call: Call,
+    ) -> Came<Option<(Pid, Guest)>>
+        requires recorded { IsRecorded J.launch J.keeps_all self.old.keeper.log self.old.kernel self.old.constants self.old.kept }
+        requires held { self.old.keeper.held ≡ pid ∷ [] }
+        requires asks { IsLiveIn (world J.launch self.old.keeper.log) pid → AsksCall (world J.launch self.old.keeper.log) pid tid body.old.turns body.old.guest call }
+        requires fork { IsFork call }
+        ensures recorded { IsRecorded J.launch J.keeps_all self.new.keeper.log self.new.kernel self.new.constants self.new.kept }
+        ensures held { self.new.keeper.held ≡ held_after result (pid ∷ []) }
+        ensures forked { IsForkedOn J.launch self.old.keeper.log pid tid body.old call body.new self.new.keeper.log result }
     {
-        let pid = pass.pid;
-        self.recorded
-            .keeper
-            .take_in(passes, Pass::lent(pid, &mut pass.badge));
-        let woken = self.recorded.wake(passes, alloc, pid, tid, turns, guest);
-        *pass = self.recorded.keeper.hand_out(passes, pid);
-        woken
+        if !self.kernel.live(pid) {
+            return Came::Gone;
+        }
+        let Ok(()) = self.kept.reserve() else {
+            return Came::NoMemory;
+        };
+        let Ok(begun) = child_guest(&self.kernel, self.alloc, pid, tid, &mut body.guest) else {
+            return Came::NoMemory;
+        };
+        let answer = self.kernel.step(&self.constants, pid, tid, &call);
+        body.guest.answer_fork(self.alloc, tid, &call, &answer);
+        let child = child_told(&answer);
+        let head = self.head(pid, tid, &mut body.turns);
+        self.keeper.append_call(passes, &head, &call, None, &answer);
+        self.kept.take_call(head, call, None, answer);
+        Came::Done(child.zip(begun))
     }
 
-    /// The end of a thread's process from outside, after these turns of it.
-    pub fn end(
-        &mut self,
-        passes: &Passes<J>,
-        pass: &mut Pass<J>,
-        tid: Tid,
-        turns: TidList,
-        how: EndBy,
-    ) -> Stopped
-        requires { AsksEnd (world J.launch pass.old.seen) pass.old.pid tid turns how }
-        ensures pass { IsStopped J.launch pass.old tid turns how pass.new result }
-        ensures history { IsStoppedOn J.launch self.old pass.old.pid tid turns how self.new result }
-        ensures seen { pass.new.seen ≡ self.new }
+    // Lets time go to the next deadline where no thread takes turns or is ready.
+    fn jump(&mut self, passes: &Passes<J>) -> Idled
+        requires recorded { IsRecorded J.launch J.keeps_all self.old.keeper.log self.old.kernel self.old.constants self.old.kept }
+        ensures recorded { IsRecorded J.launch J.keeps_all self.new.keeper.log self.new.kernel self.new.constants self.new.kept }
+        ensures idled { IsIdledOn J.launch self.old.keeper.log self.new.keeper.log result }
     {
-        let pid = pass.pid;
-        self.recorded
-            .keeper
-            .take_in(passes, Pass::lent(pid, &mut pass.badge));
-        let stopped = self.recorded.end(passes, pid, tid, turns, how);
-        *pass = self.recorded.keeper.hand_out(passes, pid);
-        stopped
+        let Ok(()) = self.kept.reserve() else {
+            return Idled::NoMemory;
+        };
+        if self.kernel.idle(&self.constants) {
+            let entry = idle_entry(self.alloc, self.kernel.moment());
+            self.keeper.append(passes, &entry);
+            self.kept.take(entry);
+            return Idled::Jumped;
+        }
+        if self.kernel.stalled(&self.constants) {
+            Idled::Stalled
+        } else {
+            Idled::Busy
+        }
     }
 
-    /// Lets time go to the next deadline where no thread takes turns or is ready.
-    pub fn idle(&mut self, passes: &Passes<J>, alloc: Global) -> Idled
-        ensures { IsIdledOn J.launch self.old self.new result }
+    /// Lets time go to the next deadline where no thread takes turns or is ready. With what became of it comes the moment then.
+    pub fn idle(&mut self, passes: &Passes<J>) -> (Idled, u64)
+        requires recorded { IsRecorded J.launch J.keeps_all self.old.keeper.log self.old.kernel self.old.constants self.old.kept }
+        ensures recorded { IsRecorded J.launch J.keeps_all self.new.keeper.log self.new.kernel self.new.constants self.new.kept }
+        ensures idled { IsIdledOn J.launch self.old.keeper.log self.new.keeper.log result.0 }
+        ensures moment { result.1 ≡ self.new.kernel.clock }
     {
-        self.recorded.idle(passes, alloc)
+        (self.jump(passes), self.kernel.moment())
     }
 
     /// Whether the pass's process is live.
     pub fn look(&mut self, passes: &Passes<J>, pass: &mut Pass<J>) -> bool
+        requires recorded { IsRecorded J.launch J.keeps_all self.old.keeper.log self.old.kernel self.old.constants self.old.kept }
+        ensures recorded { IsRecorded J.launch J.keeps_all self.new.keeper.log self.new.kernel self.new.constants self.new.kept }
         ensures pass { Looked J.launch pass.old pass.new }
         ensures live { IsTrue result ↔ IsLiveIn (world J.launch pass.new.seen) pass.old.pid }
-        ensures history { self.new ≡ self.old }
-        ensures seen { pass.new.seen ≡ self.new }
+        ensures history { self.new.keeper.log ≡ self.old.keeper.log }
+        ensures seen { pass.new.seen ≡ self.new.keeper.log }
     {
         let pid = pass.pid;
-        self.recorded
-            .keeper
+        self.keeper
             .take_in(passes, Pass::lent(pid, &mut pass.badge));
-        *pass = self.recorded.keeper.hand_out(passes, pid);
-        self.recorded.kernel.live(pid)
-    }
-
-    /// The number that the next thread of the pass's process gets. `None` where the process has ended.
-    pub fn next_thread(&mut self, passes: &Passes<J>, pass: &mut Pass<J>) -> Option<Tid>
-        ensures pass { Looked J.launch pass.old pass.new }
-        ensures some { IfSome result (λ next. IsNextThread J.launch pass.new.seen pass.old.pid next) }
-        ensures none { IsNone result → ¬ IsLiveIn (world J.launch pass.new.seen) pass.old.pid }
-        ensures history { self.new ≡ self.old }
-        ensures seen { pass.new.seen ≡ self.new }
-    {
-        if !self.look(passes, pass) {
-            return None;
-        }
-        Some(self.recorded.kernel.next_thread(pass.pid))
-    }
-
-    /// The moment now, in nanoseconds since the run began.
-    pub fn moment(&self) -> u64
-        ensures { result ≡ (world J.launch self.now).state.clock }
-    {
-        self.recorded.kernel.moment()
-    }
-
-    /// The moment now, until when a thread waits, whether its process is live, and the threads to be looked at again, which none is then.
-    pub fn times(&mut self, pid: Pid, tid: Tid) -> Times
-        ensures times { AreTimes J.launch self.old pid tid result }
-        ensures same { self.new ≡ self.old }
-    {
-        Times {
-            moment: self.moment(),
-            until: self.recorded.kernel.until(pid, tid),
-            live: self.recorded.kernel.live(pid),
-            wakes: self.recorded.kernel.take_wakes(),
-        }
-    }
-
-    /// Whether some thread is to be looked at again.
-    pub fn has_wakes(&self) -> bool {
-        self.recorded.kernel.has_wakes()
+        *pass = self.keeper.hand_out(passes, pid);
+        self.kernel.live(pid)
     }
 
     /// Takes back the pass of a process that needs it no more.
     pub fn spend(&mut self, passes: &Passes<J>, pass: Pass<J>)
-        ensures { self.new ≡ self.old }
+        requires recorded { IsRecorded J.launch J.keeps_all self.old.keeper.log self.old.kernel self.old.constants self.old.kept }
+        ensures recorded { IsRecorded J.launch J.keeps_all self.new.keeper.log self.new.kernel self.new.constants self.new.kept }
+        ensures history { self.new.keeper.log ≡ self.old.keeper.log }
     {
-        self.recorded.keeper.take_in(passes, pass);
+        self.keeper.take_in(passes, pass);
     }
 }

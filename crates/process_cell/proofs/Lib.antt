@@ -1,5 +1,4 @@
-pub mod Places
-pub mod Alone
+pub mod Kept
 pub mod Ties
 pub mod Outcomes
 pub mod RunOutcomes

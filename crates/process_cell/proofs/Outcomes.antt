@@ -1,63 +1,59 @@
--- What the kernel tells of a call, of a wake or of an end is what contracts see of the process afterwards.
---     left_by_call, left_by_birth, left_by_wake      the turns that are left
---     call_tells      what contracts see after a call
---     none_tells, child_tells      after a proc_fork, without a child and with one
---     finish_tells      after a wake
---     end_tells      after an end from outside
-use Rattle.std.proofs.Common.{◌≡◌, ◌≢◌, ℕ, Bool, true, false, List, [], ◌∷◌, ◌++◌, ◌-◌, Option, None, Some, IsSome, Result, Ok, Err, if◌then◌else◌, inl, inr, refl, sym, ap, subst, ◌∙◌}
+-- What the kernel tells of what a thread asked for is what contracts see of the process afterwards.
+--     left_after_call, left_by_birth, left_after_wake      the turns that are left
+--     plain_call, plain_wake, plain_end, asked_tells      what contracts see after a call, a wake or an end from outside
+--     born_some, born_none, none_tells, child_tells      after a proc_fork, without a child and with one
+use Rattle.std.proofs.Common.{◌≡◌, ◌≢◌, ℕ, Bool, true, false, List, [], ◌∷◌, ◌++◌, ◌-◌, Option, None, Some, IsSome, if◌then◌else◌, refl, sym, ap, subst, ◌∙◌}
 use Rattle.std.specs.FinMap.{get, insert, remove}
 use Rattle.abi_types.specs.declared.reply.Answer.{Answer}
 use Rattle.abi_types.specs.declared.call.Call.{Call}
-use Rattle.abi_types.specs.declared.call.Call.TheVariants.{ProcExec, ProcFork, ThreadYield}
+use Rattle.abi_types.specs.declared.call.Call.TheVariants.{ProcExec, ProcFork}
 use Rattle.abi_types.specs.declared.reply.Answer.TheVariants as answer
 use Rattle.abi_types.specs.declared.reply.Payload.{Payload}
 use Rattle.abi_types.specs.declared.reply.Payload.TheVariants.{Image}
 use Rattle.abi_types.specs.declared.wake.WakeIn.{WakeIn}
+use Rattle.run_types.specs.declared.history.Act.{Act}
+use Rattle.run_types.specs.declared.history.Act.TheVariants as act
 use Rattle.run_types.specs.declared.history.Entry.{Entry}
 use Rattle.run_types.specs.declared.launch.Launch.{Launch}
-use Rattle.maps.specs.Maps.{get-insert-same}
+use Rattle.maps.specs.Maps.{get-insert-same, get-insert-other, same_around}
 use Rattle.kernel_model.specs.State.{thread_of}
 use Rattle.kernel_model.specs.Threads.{child_told, is_success}
 use Rattle.kernel_model.proofs.Tests.{none_is_no, not_true}
 use Rattle.tree_model.specs.Grants.{MayBegin}
-use Rattle.run_model.specs.Legal.{Fits, Legal}
-use Rattle.run_model.specs.Own.{is_idle, own, IsLiveIn, Same}
+use Rattle.run_model.specs.Own.{own}
 use Rattle.run_model.specs.World.{World, Guest, world, apply, turned, or_no_guest, guest_of, thread_at, turned_guest_by, answered_guest, begun_guest, called_guest, less_share, share}
-use Rattle.run_model.proofs.Histories.{world_more, legal_front, legal_next, apply_is, guest_turned}
+use Rattle.run_model.proofs.Histories.{world_more, apply_is, guest_turned}
 use Rattle.run_model.proofs.Births.{one_contains}
-use Rattle.run_model.proofs.Own.{left_alone}
 use Rattle.run_model.proofs.Registers.{call_guest}
 use Rattle.run_model.proofs.Worlds.{born_guest}
+use Rattle.shared_history.specs.Entries.{head_of, entry_of, answered_call}
+use Rattle.shared_history.specs.Passes.{IsSeen, Later, Passing}
+use Rattle.kernel_cell.specs.Acting.{Became, Entered, HasForked, IsActed, IsForkedOn, IsNotReady, MayCome, by_number, child_of, going_on}
 use Rattle.kernel_cell.specs.Acting as Acting
-use Rattle.kernel_cell.specs.Acting.{Added, AddedCall, AddedEnd, AddedWake, HasNoChild, Looked, IsActed, IsNotReady, IsStopped, IsWoken, KeepsTurns, act_of}
-use Rattle.shared_history.specs.Entries.{head_of, answered_call, act_of as answered_act}
-use Rattle.shared_history.specs.Passes.{Passing}
-use Rattle.kernel_cell.specs.declared.results.Acted.{Acted}
-use Rattle.kernel_cell.specs.declared.results.Acted.TheVariants as acted
+use Rattle.kernel_cell.specs.Afterwards.{act_of}
+use Rattle.kernel_cell.specs.Asking.{Answers, Asks, HasNoChild, IsWake}
+use Rattle.kernel_cell.specs.Places.{Threads, with_made}
+use Rattle.kernel_cell.specs.declared.results.After.{After}
+use Rattle.kernel_cell.specs.declared.results.After.TheVariants as to
+use Rattle.kernel_cell.specs.declared.results.Asked.{Asked}
+use Rattle.kernel_cell.specs.declared.results.Asked.TheVariants as asked
+use Rattle.kernel_cell.specs.declared.results.Body.{Body}
+use Rattle.kernel_cell.specs.declared.results.Came.{Came}
+use Rattle.kernel_cell.specs.declared.results.Came.TheVariants as came
+use Rattle.kernel_cell.specs.declared.results.Doing.{Doing}
+use Rattle.kernel_cell.specs.declared.results.Doing.TheVariants as doing
 use Rattle.kernel_cell.specs.declared.results.EndBy.{EndBy}
-use Rattle.kernel_cell.specs.declared.results.NotMade.{NotMade}
-use Rattle.kernel_cell.specs.declared.results.NotMade.TheVariants as not_made
-use Rattle.kernel_cell.specs.declared.results.Stopped.{Stopped}
-use Rattle.kernel_cell.specs.declared.results.Stopped.TheVariants as stopped
-use Rattle.kernel_cell.specs.declared.results.Woken.{Woken}
-use Rattle.kernel_cell.specs.declared.results.Woken.TheVariants as woken
-use Rattle.process_cell.specs.Phases.{Threads, alone, phase_after, did_after_act, did_after_end, did_after_fork, did_after_wake, is_yield, threads_after_act, threads_after_wake}
-use Rattle.process_cell.specs.Places.{Moved}
-use Rattle.process_cell.specs.Process.{Stands, Tied, WaitsIn, standing_of}
+use Rattle.kernel_cell.specs.declared.results.EndBy.TheVariants as end_by
+use Rattle.kernel_cell.proofs.PassOutcomes.{own_entered}
+use Rattle.process_cell.specs.Phases.{alone, is_yield, phase_after, threads_after}
+use Rattle.process_cell.specs.Process.{Stands, standing_of}
 use Rattle.process_cell.specs.Standing.{Standing}
-use Rattle.process_cell.specs.Steps.{Enters, EntersCall, EntersWake, IsCalled, IsForked, IsFinished, IsEnded, LivesOn}
-use Rattle.process_cell.specs.declared.results.Did.{Did}
-use Rattle.process_cell.specs.declared.results.Did.TheVariants as did
-use Rattle.process_cell.specs.declared.results.Doing.TheVariants as doing
+use Rattle.process_cell.specs.Steps.{Becomes, Enters, EntersFork, IsAsked, IsForked, LivesOn, asks_way, born, running, waiting}
 use Rattle.process_cell.specs.declared.results.Phase.{Phase}
 use Rattle.process_cell.specs.declared.results.Phase.TheVariants as phase
-use Rattle.process_cell.proofs.Ties.{does_none}
+use Rattle.process_cell.proofs.Ties.{does_none, settled, stands_then}
 
 -- ---- the turns that a call and a wake leave
-
-is_busy : (call : Call) (given : Option WakeIn) (answered : Answer) → is_idle (answered_act call given answered) ≡ false
-is_busy call None answered = refl
-is_busy call (Some given) answered = refl
 
 -- the guest of a process after its thread's call, which makes no child with its number
 guest_after_call : (w : World) (moment p t : ℕ) (turns : List ℕ) (call : Call) (answered : Answer) → child_told call answered ≢ Some p
@@ -98,385 +94,353 @@ answered_left p guest t (ProcFork left) given =
     less_left (child_told (ProcFork left) given) (called_guest guest t (ProcFork left) given) guest refl
 answered_left p guest t call given = refl
 
-module _ (launch : Launch) (begins : MayBegin launch.tree launch.grants) (v w : Passing) (moment t : ℕ) (turns : List ℕ) (call : Call) (given : Option WakeIn)
-    (answered : Answer) (live : IsLiveIn (world launch v.seen) v.pid) (added : Added launch v (answered_call (head_of moment v.pid t turns) call given answered) w) where
-  -- the world before the entry, in which the process is what it was
-  abbrev world_before : World
-  world_before = world launch added.before
-
-  abbrev entry_is : Entry
-  entry_is = answered_call (head_of moment v.pid t turns) call given answered
-
-  world_is : world launch w.seen ≡ apply world_before entry_is
-  world_is = ap (world launch) added.last ∙ world_more launch added.before entry_is
-
-  guest_same : guest_of world_before v.pid ≡ guest_of (world launch v.seen) v.pid
-  guest_same =
-      let legal : Legal launch (added.before ++ entry_is ∷ []) = subst (Legal launch) added.last added.seen.legal in
-      let fits : Fits world_before entry_is = legal_next launch added.before entry_is [] legal in
-      let same : Same world_before (world launch v.seen) v.pid =
-      left_alone launch v.seen added.later.beginning.0 added.before v.pid begins (legal_front launch added.before (entry_is ∷ []) legal)
-      (sym added.later.beginning.1) added.later.same (subst IsSome (sym live) refl) (fits.live (is_busy call given answered)) in
-      same.guest
-
-module _ (launch : Launch) (begins : MayBegin launch.tree launch.grants) (v w : Passing) (moment t : ℕ) (turns : List ℕ) (call : Call) (answered : Answer)
-    (was : Guest) (live : IsLiveIn (world launch v.seen) v.pid) (was_is : was ≡ turned_guest_by turns (guest_of (world launch v.seen) v.pid)) where
-  left_by_call : (guest : Guest) → Added launch v (answered_call (head_of moment v.pid t turns) call None answered) w → guest ≡ guest_of (world launch w.seen) v.pid
-      → child_told call answered ≢ Some v.pid → guest.left ≡ (less_share (child_told call answered) was).left
-  left_by_call guest added guest_is other =
-      let x : World = world launch added.before in
-      ap (λ (g : Guest). g.left) guest_is
-      ∙ ap (λ (y : World). (guest_of y v.pid).left) (world_is launch begins v w moment t turns call None answered live added)
-      ∙ ap (λ (g : Guest). g.left) (guest_after_call x moment v.pid t turns call answered other)
-      ∙ answered_left v.pid (turned_guest_by turns (guest_of x v.pid)) t call answered
-      ∙ ap (λ (g : Guest). (less_share (child_told call answered) (turned_guest_by turns g)).left)
-      (guest_same launch begins v w moment t turns call None answered live added)
-      ∙ sym (ap (λ (g : Guest). (less_share (child_told call answered) g).left) was_is)
-
-  -- a child has a sixteenth of what was left
-  left_by_birth : (q : ℕ) (child : Guest) → Added launch v (answered_call (head_of moment v.pid t turns) call None answered) w
-      → child ≡ guest_of (world launch w.seen) q → child_told call answered ≡ Some q → child.left ≡ share was.left
-  left_by_birth q child added child_is told =
-      let x : World = world launch added.before in
-      ap (λ (g : Guest). g.left) child_is
-      ∙ ap (λ (y : World). (guest_of y q).left) (world_is launch begins v w moment t turns call None answered live added)
-      ∙ ap (λ (g : Guest). g.left) (born_guest x (answered_call (head_of moment v.pid t turns) call None answered) q (one_contains (child_told call answered) q told))
-      ∙ ap (λ (g : Guest). share g.left) (guest_turned x v.pid turns)
-      ∙ ap (λ (g : Guest). share (turned_guest_by turns g).left) (guest_same launch begins v w moment t turns call None answered live added)
-      ∙ sym (ap (λ (g : Guest). share g.left) was_is)
-
-  left_by_wake : (given : WakeIn) (guest : Guest) → Added launch v (answered_call (head_of moment v.pid t turns) call (Some given) answered) w
-      → guest ≡ guest_of (world launch w.seen) v.pid → guest.left ≡ was.left
-  left_by_wake given guest added guest_is =
-      let x : World = world launch added.before in
-      ap (λ (g : Guest). g.left) guest_is
-      ∙ ap (λ (y : World). (guest_of y v.pid).left) (world_is launch begins v w moment t turns call (Some given) answered live added)
-      ∙ ap (λ (g : Guest). g.left) (guest_after_wake x moment v.pid t turns call given answered)
-      ∙ ap (λ (g : Guest). (turned_guest_by turns g).left) (guest_same launch begins v w moment t turns call (Some given) answered live added)
-      ∙ sym (ap (λ (g : Guest). g.left) was_is)
+-- a call that makes no child, or a wake
+abbrev pub IsPlain : Asked → Type 0
+IsPlain (asked.Calls call) = HasNoChild call
+IsPlain asked.Wakes = Unit {0}
+IsPlain (asked.Ends how) = ⊥
 
 -- a call that is no proc_fork makes no child
 tells_none : (call : Call) (given : Answer) → HasNoChild call → child_told call given ≡ None
 tells_none (ProcFork left) given plain = absurd plain
 tells_none call given plain = refl
 
--- ---- the entries that a process did
+module _ (launch : Launch) (log after : List Entry) (p t : ℕ) (turns : List ℕ) (what : Asked) (entered : Entered launch log p t turns what after) (was : Guest)
+    (was_is : was ≡ turned_guest_by turns (guest_of (world launch log) p)) where
+  abbrev w : World
+  w = world launch log
 
-own_one : (launch : Launch) (v w : Passing) (e : Entry) → Added launch v e w → own w.pid w.seen ≡ own v.pid v.seen ++ e ∷ []
-own_one launch v w e added = ap (λ (p : ℕ). own p w.seen) added.pid ∙ added.same_own
+  -- the world after the entry
+  after_is : (a : Act) → entered.act ≡ a → world launch after ≡ apply w (entry_of (head_of entered.moment p t turns) a)
+  after_is a is =
+      ap (world launch) entered.last
+      ∙ world_more launch log (entry_of (head_of entered.moment p t turns) entered.act)
+      ∙ ap (λ (x : Act). apply w (entry_of (head_of entered.moment p t turns) x)) is
 
-own_none : (launch : Launch) (v w : Passing) → Looked launch v w → own w.pid w.seen ≡ own v.pid v.seen
-own_none launch v w looked = ap (λ (p : ℕ). own p w.seen) looked.pid ∙ sym looked.later.same
+  left_after_call : (call : Call) (given : Answer) (guest : Guest) → entered.act ≡ act.Call call given → guest ≡ guest_of (world launch after) p
+      → child_told call given ≢ Some p → guest.left ≡ (less_share (child_told call given) was).left
+  left_after_call call given guest is guest_is other =
+      ap (λ (g : Guest). g.left) guest_is
+      ∙ ap (λ (y : World). (guest_of y p).left) (after_is (act.Call call given) is)
+      ∙ ap (λ (g : Guest). g.left) (guest_after_call w entered.moment p t turns call given other)
+      ∙ answered_left p (turned_guest_by turns (guest_of w p)) t call given
+      ∙ sym (ap (λ (g : Guest). (less_share (child_told call given) g).left) was_is)
 
--- ---- a call
+  -- a child has a sixteenth of what was left
+  left_by_birth : (call : Call) (given : Answer) (q : ℕ) (child : Guest) → entered.act ≡ act.Call call given → child ≡ guest_of (world launch after) q
+      → child_told call given ≡ Some q → child.left ≡ share was.left
+  left_by_birth call given q child is child_is told =
+      ap (λ (g : Guest). g.left) child_is
+      ∙ ap (λ (y : World). (guest_of y q).left) (after_is (act.Call call given) is)
+      ∙ ap (λ (g : Guest). g.left) (born_guest w (answered_call (head_of entered.moment p t turns) call None given) q (one_contains (child_told call given) q told))
+      ∙ ap (λ (g : Guest). share g.left) (guest_turned w p turns)
+      ∙ sym (ap (λ (g : Guest). share g.left) was_is)
+
+  left_after_wake : (call : Call) (given : WakeIn) (answered : Answer) (guest : Guest) → entered.act ≡ act.Wake call given answered
+      → guest ≡ guest_of (world launch after) p → guest.left ≡ was.left
+  left_after_wake call given answered guest is guest_is =
+      ap (λ (g : Guest). g.left) guest_is
+      ∙ ap (λ (y : World). (guest_of y p).left) (after_is (act.Wake call given answered) is)
+      ∙ ap (λ (g : Guest). g.left) (guest_after_wake w entered.moment p t turns call given answered)
+      ∙ sym (ap (λ (g : Guest). g.left) was_is)
+
+  -- where the process lives on without a child all turns stay
+  left_kept : IsPlain what → (guest : Guest) → guest ≡ guest_of (world launch after) p → guest.left ≡ was.left
+  left_kept plain guest guest_is = left_by what plain entered.answers
+    where
+      left_by : (asks : Asked) → IsPlain asks → Answers asks entered.act → guest.left ≡ was.left
+      left_by (asked.Calls call) none answers =
+          left_after_call call answers.0 guest answers.1 guest_is (λ own. none_is_no p (sym (tells_none call answers.0 none) ∙ own))
+          ∙ ap (λ (o : Option ℕ). (less_share o was).left) (tells_none call answers.0 none)
+      left_by asked.Wakes none answers = left_after_wake answers.0 answers.1 answers.2 guest answers.3 guest_is
+      left_by (asked.Ends how) none answers = absurd none
+
+-- ---- threads
 
 no_end : (es : List Entry) (e : Entry) → es ++ e ∷ [] ≢ []
 no_end [] e is = absurd (cc is)
 no_end (x ∷ es) e is = absurd (cc is)
 
--- no child came of a proc_fork
-abbrev pub HasNone : Result (Option (Passing × Guest)) NotMade → Type 0
-HasNone (Ok (Some child)) = ⊥
-HasNone other = Unit {0}
+-- what a thread does that asks so
+abbrev pub doing_of : Asked → Doing
+doing_of asked.Wakes = doing.Waits
+doing_of what = doing.Runs
 
--- a thread that doesn't give way after its call, as it would if it had asked, made another call than thread_yield
-no_yield : (call : Call) → (is_yield call ≡ true → false ≡ true) → call ≢ ThreadYield
-no_yield call gives is = not_true (gives (ap is_yield is))
+-- a thread does what it did
+put_same : (threads : Threads) (t : ℕ) (what : Doing) → get threads t ≡ Some what → insert threads t what ≡ threads
+put_same threads t what is =
+    same_around (insert threads t what) threads t (get-insert-same threads t what ∙ sym is) (λ q apart. get-insert-other threads t what q apart)
 
-module _ (launch : Launch) (begins : MayBegin launch.tree launch.grants) (v w : Passing) (t : ℕ) (threads : Threads) (turns : List ℕ) (call : Call)
-    (was guest : Guest) (now : Phase) where
-  -- the turns that were taken out for the entry are those of the process
-  acted_by : (taken : List ℕ) (outcome : Acted) → taken ≡ turns → IsActed launch v t taken call guest w outcome
-      → IsActed launch v t turns call guest w outcome
-  acted_by taken outcome all told = subst (λ (ts : List ℕ). IsActed launch v t ts call guest w outcome) all told
+module _ (t : ℕ) (threads threads' : Threads) where
+  runs_so : (what : Asked) → MayCome what to.Runs → get threads t ≡ Some (doing_of what) → threads' ≡ threads
+      → insert threads' t doing.Runs ≡ running what t threads
+  runs_so (asked.Calls call) may does is = ap (λ (m : Threads). insert m t doing.Runs) is ∙ put_same threads t doing.Runs does
+  runs_so asked.Wakes may does is = ap (λ (m : Threads). insert m t doing.Runs) is
+  runs_so (asked.Ends how) may does is = absurd may
 
-  enters_call : (threads' : Threads) (later : Phase) → AddedCall launch v t turns call w
-      → EntersCall t (standing_of v threads turns was now) (standing_of w threads' [] guest later)
-  enters_call threads' later told = record {
-    call = call;
-    given = told.given;
-    entry = record {
-      moment = told.moment;
-      own = own_one launch v w (answered_call (head_of told.moment v.pid t turns) call None told.given) told.added;
-      turns = refl;
-    };
+  waits_so : (what : Asked) → MayCome what to.Waits → get threads t ≡ Some (doing_of what) → threads' ≡ threads
+      → insert threads' t doing.Waits ≡ waiting what t threads
+  waits_so (asked.Calls call) may does is = ap (λ (m : Threads). insert m t doing.Waits) is
+  waits_so asked.Wakes may does is = ap (λ (m : Threads). insert m t doing.Waits) is ∙ put_same threads t doing.Waits does
+  waits_so (asked.Ends how) may does is = absurd may
+
+-- ---- a call, a wake and an end from outside
+
+-- the thread gives way where what it asked for asks for that
+abbrev pub GivesWay : Asked → Bool → Type 0
+GivesWay (asked.Calls call) gives = is_yield call ≡ true → gives ≡ true
+GivesWay asked.Wakes gives = gives ≡ true
+GivesWay (asked.Ends how) gives = Unit {0}
+
+end_keeps_way : (how : EndBy) → asks_way (act_of how) ≡ false
+end_keeps_way (end_by.Trap signal) = refl
+end_keeps_way end_by.Expire = refl
+
+gives_so : (what : Asked) (a : Act) (gives : Bool) → Answers what a → GivesWay what gives → asks_way a ≡ true → gives ≡ true
+gives_so (asked.Calls call) a gives answers way asks = way (sym (ap asks_way answers.1) ∙ asks)
+gives_so asked.Wakes a gives answers way asks = way
+gives_so (asked.Ends how) a gives answers way asks = absurd (not_true (sym (ap asks_way answers ∙ end_keeps_way how) ∙ asks))
+
+-- a call that is no proc_fork
+pub plain_call : (call : Call) → HasNoChild call → (other : Call) → asked.Calls call ≡ asked.Calls other → HasNoChild other
+plain_call call none other is = let same : call ≡ other = cc is in subst HasNoChild same none
+
+pub plain_wake : (other : Call) → asked.Wakes ≡ asked.Calls other → HasNoChild other
+plain_wake other is = absurd (cc is)
+
+pub plain_end : (how : EndBy) (other : Call) → asked.Ends how ≡ asked.Calls other → HasNoChild other
+plain_end how other is = absurd (cc is)
+
+-- an end from outside ends
+ends_only : (how : EndBy) (x : After) → MayCome (asked.Ends how) x → x ≡ to.Ended
+ends_only how to.Runs may = absurd may
+ends_only how (to.Starts u) may = absurd may
+ends_only how to.Waits may = absurd may
+ends_only how to.Leaves may = absurd may
+ends_only how to.Begins may = absurd may
+ends_only how to.Lost may = absurd may
+ends_only how to.Ended may = refl
+
+module _ (launch : Launch) (begins : MayBegin launch.tree launch.grants) (v w : Passing) (t : ℕ) (body body' : Body) (now : Phase)
+    (stands : Stands (world launch v.seen) v.pid body.threads body.turns body.guest) where
+  abbrev before : Standing
+  before = standing_of v body now
+
+  abbrev left_as : Came After → Standing
+  left_as result = standing_of w (settled body' t result) (phase_after result)
+
+  own_none : (log : List Entry) → w.pid ≡ v.pid → w.seen ≡ log → Later v.pid v.seen log → own w.pid w.seen ≡ own v.pid v.seen
+  own_none log pid same later = (λ i. own (pid i) (same i)) ∙ sym later.same
+
+  pub enters : (what : Asked) (log : List Entry) (after : Standing) → after.own ≡ own w.pid w.seen → after.turns ≡ [] → w.pid ≡ v.pid → Later v.pid v.seen log
+      → Entered launch log v.pid t body.turns what w.seen → Enters t before what after
+  enters what log after mine none pid later entered = record {
+    act = entered.act;
+    answers = entered.answers;
+    moment = entered.moment;
+    own = mine ∙ ap (λ (p : ℕ). own p w.seen) pid ∙ own_entered launch log w.seen v.pid t body.turns what entered
+        ∙ ap (λ (es : List Entry). es ++ entry_of (head_of entered.moment v.pid t body.turns) entered.act ∷ []) (sym later.same);
+    turns = none;
   }
 
-  call_left : Stands (world launch v.seen) v.pid threads turns was → (told : AddedCall launch v t turns call w) → guest ≡ guest_of (world launch w.seen) v.pid
-      → (child : Option ℕ) → child_told call told.given ≡ child → child ≢ Some v.pid → guest.left ≡ (less_share child was).left
-  call_left stands told guest_is child is other =
-      left_by_call launch begins v w told.moment t turns call told.given was stands.live stands.guest_is guest told.added guest_is (λ own. other (sym is ∙ own))
-      ∙ ap (λ (o : Option ℕ). (less_share o was).left) is
+  module _ (what : Asked) (does : get body.threads t ≡ Some (doing_of what)) where
+    became_by : IsPlain what → (log : List Entry) → IsSeen launch v.pid w.seen → Later v.pid v.seen log → Entered launch log v.pid t body.turns what w.seen
+        → (a : Act) (x : After) → MayCome what x → Became launch log v.pid t w.seen body'.guest a x → body'.threads ≡ with_made x body.threads
+        → Becomes t what before (left_as (came.Done x)) a x
+    became_by plain log seen later entered a x may became is = by x may became is
+      where
+        at : Stands (world launch log) v.pid body.threads body.turns body.guest
+        at = stands_then launch begins v w t body body' stands log seen later what entered
 
-  -- without a child all turns stay
-  plain_left : Stands (world launch v.seen) v.pid threads turns was → (told : AddedCall launch v t turns call w) → guest ≡ guest_of (world launch w.seen) v.pid
-      → child_told call told.given ≡ None → guest.left ≡ was.left
-  plain_left stands told guest_is none = call_left stands told guest_is None none (none_is_no v.pid)
+        left : body'.guest ≡ guest_of (world launch w.seen) v.pid → body'.guest.left ≡ body.guest.left
+        left guest_is = left_kept launch log w.seen v.pid t body.turns what entered body.guest at.guest_is plain body'.guest guest_is
 
-  -- the process lives on with these threads
-  call_lives : (threads' : Threads) → Stands (world launch v.seen) v.pid threads turns was → (told : AddedCall launch v t turns call w)
-      → guest ≡ guest_of (world launch w.seen) v.pid → child_told call told.given ≡ None
-      → LivesOn (standing_of v threads turns was now) (standing_of w threads' [] guest phase.Lives) threads'
-  call_lives threads' stands told guest_is none = record { lives = refl; left = plain_left stands told guest_is none; threads_are = refl }
+        by : (y : After) → MayCome what y → Became launch log v.pid t w.seen body'.guest a y → body'.threads ≡ with_made y body.threads
+            → Becomes t what before (left_as (came.Done y)) a y
+        by to.Runs may became is = record { lives = refl; left = left became.0.guest_is; threads_are = runs_so t body.threads body'.threads what may does is }
+        by (to.Starts u) may became is = (
+          record { lives = refl; left = left became.0.guest_is; threads_are = is },
+          does_none (get body.threads u) (thread_of (world launch log).state v.pid u) (at.are u) became.1.absent,
+        )
+        by to.Waits may became is = record { lives = refl; left = left became.0.guest_is; threads_are = waits_so t body.threads body'.threads what may does is }
+        by to.Leaves may became is = record { lives = refl; left = left became.0.guest_is; threads_are = ap (λ (m : Threads). remove m t) is }
+        by to.Begins may became is = record { lives = refl; left = left became.0.guest_is; threads_are = refl }
+        by to.Lost may became is = (refl, became)
+        by to.Ended may became is = refl
 
-  call_by : HasNoChild call → (yields : Bool) (outcome : Acted) → (is_yield call ≡ true → yields ≡ true) → Stands (world launch v.seen) v.pid threads turns was
-      → IsActed launch v t turns call guest w outcome
-      → IsCalled t (standing_of v threads turns was now)
-      (standing_of w (threads_after_act threads t outcome) [] guest (phase_after (did_after_act yields outcome))) (did_after_act yields outcome)
-  unfolding enters_call
-  call_by plain true acted.Runs gives stands told =
-      (call_lives threads stands told.0 told.1.guest_is (tells_none call told.0.given plain), enters_call threads phase.Lives told.0)
-  call_by plain false acted.Runs gives stands told =
-      (call_lives threads stands told.0 told.1.guest_is (tells_none call told.0.given plain), (enters_call threads phase.Lives told.0, no_yield call gives))
-  call_by plain yields (acted.Starts u) gives stands told = (
-    call_lives (insert threads u doing.Runs) stands told.0 told.1.guest_is (tells_none call told.0.given plain),
-    does_none (get threads u) (thread_of (world launch v.seen).state v.pid u) (stands.are u) told.2.absent,
-    enters_call (insert threads u doing.Runs) phase.Lives told.0,
+  -- what became of it, where it may be the end of the process from outside
+  became_so : (what : Asked) → get body.threads t ≡ Some (doing_of what) → (plain : (call : Call) → what ≡ asked.Calls call → HasNoChild call) → (log : List Entry)
+      → IsSeen launch v.pid w.seen → Later v.pid v.seen log → Entered launch log v.pid t body.turns what w.seen
+      → (a : Act) (x : After) → MayCome what x → Became launch log v.pid t w.seen body'.guest a x → body'.threads ≡ with_made x body.threads
+      → Becomes t what before (left_as (came.Done x)) a x
+  became_so (asked.Calls call) does plain log seen later entered a x may became is =
+      became_by (asked.Calls call) does (plain call refl) log seen later entered a x may became is
+  became_so asked.Wakes does plain log seen later entered a x may became is = became_by asked.Wakes does tt log seen later entered a x may became is
+  became_so (asked.Ends how) does plain log seen later entered a x may became is =
+      subst (λ (y : After). Becomes t (asked.Ends how) before (left_as (came.Done y)) a y) (sym (ends_only how x may)) refl
+
+  asked_by : (what : Asked) (result : Came After) (gives : Bool) → get body.threads t ≡ Some (doing_of what) → (IsWake what → now ≡ phase.Lives)
+      → ((call : Call) → what ≡ asked.Calls call → HasNoChild call) → GivesWay what gives → IsActed launch v t body what body' w result
+      → IsAsked launch t what before (left_as result) result gives
+  unfolding enters
+  asked_by what (came.Done x) gives does lives plain way told =
+      let on = told.happens.came in
+      let kept = told.happens.kept in (
+        enters what told.log (left_as (came.Done x)) refl kept.0 told.pid told.later on.0,
+        on.1.0,
+        became_so what does plain told.log told.seen told.later on.0 on.0.act x on.1.0 on.1.1 kept.1,
+        gives_so what on.0.act gives on.0.answers way,
+      )
+  asked_by asked.Wakes came.NotReady gives does lives plain way told = (
+    (λ i. record {
+      pid = told.pid i;
+      phase = sym (lives tt) i;
+      threads = (told.happens.kept i).threads;
+      left = (told.happens.kept i).guest.left;
+      turns = (told.happens.kept i).turns;
+      seen = w.seen;
+      own = own_none told.log told.pid told.happens.came.0 told.later i;
+    }),
+    subst (λ (x : ℕ × List Entry). IsNotReady launch x.1 x.0 t) (λ i. (sym told.pid i, sym told.happens.came.0 i)) told.happens.came.1,
+    tt,
   )
-  call_by plain yields acted.Parks gives stands told = (
-    call_lives (insert threads t doing.Waits) stands told.0 told.1.guest_is (tells_none call told.0.given plain),
-    enters_call (insert threads t doing.Waits) phase.Lives told.0,
-  )
-  call_by plain yields acted.Leaves gives stands told =
-      (call_lives (remove threads t) stands told.0 told.1.guest_is (tells_none call told.0.given plain), enters_call (remove threads t) phase.Lives told.0)
-  call_by plain yields acted.Begins gives stands told =
-      (call_lives (alone t) stands told.0 told.1.guest_is (tells_none call told.0.given plain), enters_call (alone t) phase.Lives told.0)
-  call_by plain yields acted.Lost gives stands told = (refl, inl (enters_call threads phase.Lost told.0, told.1))
-  call_by plain yields acted.Ends gives stands told = (refl, inl (enters_call threads phase.Gone told.0))
-  call_by plain yields acted.Gone gives stands told = (refl, inr (own_none launch v w told.0))
-  call_by plain yields acted.NoMemory gives stands told = (refl, inr (own_none launch v w told.0))
+  asked_by (asked.Calls call) came.NotReady gives does lives plain way told = absurd told.happens.came.2
+  asked_by (asked.Ends how) came.NotReady gives does lives plain way told = absurd told.happens.came.2
+  asked_by what came.Gone gives does lives plain way told = (refl, own_none told.log told.pid told.happens.came.0 told.later)
+  asked_by what came.NoMemory gives does lives plain way told = (refl, own_none told.log told.pid told.happens.came.0 told.later)
 
-  call_made : HasNoChild call → (threads' : Threads) (taken none : List ℕ) (later : Phase) (done : Did) (yields : Bool) (outcome : Acted) → (is_yield call ≡ true → yields ≡ true)
-      → Stands (world launch v.seen) v.pid threads turns was → taken ≡ turns → IsActed launch v t taken call guest w outcome → none ≡ []
-      → threads' ≡ threads_after_act threads t outcome → done ≡ did_after_act yields outcome → later ≡ phase_after done
-      → IsCalled t (standing_of v threads turns was now) (standing_of w threads' none guest later) done
-  call_made plain threads' taken none later done yields outcome gives stands all told no_turns threads_are done_is after =
-      subst (λ (x : Threads × List ℕ × Phase × Did). IsCalled t (standing_of v threads turns was now) (standing_of w x.0 x.1 guest x.2) x.3)
-      (λ i. (sym threads_are i, sym no_turns i, sym (after ∙ ap phase_after done_is) i, sym done_is i))
-      (call_by plain yields outcome gives stands (acted_by taken outcome all told))
-
-  -- the child, whose number is not its parent's, since it did no entry
-  is_other : (q : ℕ) → AddedCall launch v t turns call w → own q w.seen ≡ [] → Some q ≢ Some v.pid
-  is_other q told none same =
-      let there : q ≡ v.pid = cc same in
-      no_end (own v.pid v.seen) _ (sym told.added.same_own ∙ ap (λ (p : ℕ). own p w.seen) (sym there) ∙ none)
-
-  abbrev ForkedBy : Result (Option (Passing × Guest)) NotMade → Option Standing → Type 0
-  ForkedBy outcome child =
-      IsForked t (standing_of v threads turns was now) (standing_of w threads [] guest (phase_after (did_after_fork outcome))) (did_after_fork outcome) child
-
-  child_by : (pass : Passing) (begun : Guest) → Stands (world launch v.seen) v.pid threads turns was
-      → Acting.IsForked launch v t turns call guest w (Ok (Some (pass, begun))) → ForkedBy (Ok (Some (pass, begun))) (Some (standing_of pass (alone t) [] begun phase.Lives))
-  unfolding enters_call
-  child_by pass begun stands told = (
-    record {
-      lives = refl;
-      left = call_left stands told.0 told.1.guest_is (Some pass.pid) told.5 (is_other pass.pid told.0 told.4.none);
-      threads_are = refl;
-    },
-    (enters_call threads phase.Lives told.0, told.5),
-    record {
-      lives = refl;
-      threads_are = refl;
-      left = left_by_birth launch begins v w told.0.moment t turns call told.0.given was stands.live stands.guest_is pass.pid begun
-          told.0.added told.4.goes_on.guest_is told.5;
-      turns = refl;
-      seen = told.3;
-      none = ap (own pass.pid) told.3 ∙ told.4.none;
-    },
-  )
-
-  none_by : (outcome : Result (Option (Passing × Guest)) NotMade) → Stands (world launch v.seen) v.pid threads turns was
-      → Acting.IsForked launch v t turns call guest w outcome → HasNone outcome → ForkedBy outcome None
-  unfolding enters_call
-  none_by (Ok (Some child)) stands told none = absurd none
-  none_by (Ok None) stands told none =
-      (call_lives threads stands told.0 told.1.guest_is told.3, (enters_call threads phase.Lives told.0, told.3))
-  none_by (Err not_made.Gone) stands told none = (refl, own_none launch v w told.0)
-  none_by (Err not_made.NoMemory) stands told none = (refl, own_none launch v w told.0)
-
--- the history that was seen before a call doesn't matter
-module _ (t : ℕ) (before after : Standing) (seen : List Entry) where
-  abbrev earlier : Standing
-  earlier = record before { seen = seen }
-
-  enters_earlier : EntersCall t before after → EntersCall t earlier after
-  enters_earlier e = record {
-    call = e.call;
-    given = e.given;
-    entry = record { moment = e.entry.moment; own = e.entry.own; turns = e.entry.turns };
-  }
-
-  lives_earlier : (threads : Threads) → LivesOn before after threads → LivesOn earlier after threads
-  lives_earlier threads made = record { lives = made.lives; left = made.left; threads_are = made.threads_are }
-
-  called_earlier : (done : Did) → done ≢ did.Forks → IsCalled t before after done → IsCalled t earlier after done
-  unfolding enters_earlier
-  called_earlier did.Runs n made = (lives_earlier before.threads made.0, (enters_earlier made.1.0, made.1.1))
-  called_earlier did.Yields n made = (lives_earlier before.threads made.0, enters_earlier made.1)
-  called_earlier (did.Started u) n made = (lives_earlier (insert before.threads u doing.Runs) made.0, made.1, enters_earlier made.2)
-  called_earlier did.Forks n made = absurd (n refl)
-  called_earlier did.Begun n made = (lives_earlier (alone t) made.0, enters_earlier made.1)
-  called_earlier did.Parks n made = (lives_earlier (insert before.threads t doing.Waits) made.0, enters_earlier made.1)
-  called_earlier did.NotReady n made = absurd made
-  called_earlier did.ThreadGone n made = (lives_earlier (remove before.threads t) made.0, enters_earlier made.1)
-  called_earlier did.ProcessGone n made =
-      (made.0, elim made.1 [ inl entered ↦ inl (enters_earlier entered) | inr none ↦ inr none ])
-  called_earlier did.NoMemory n made =
-      (made.0, elim made.1 [ inl entered ↦ inl (enters_earlier entered.0, entered.1) | inr none ↦ inr none ])
-
--- nothing that came of a call that was made is that it is a proc_fork
-made_it : (yields : Bool) (outcome : Acted) → did_after_act yields outcome ≢ did.Forks
-made_it true acted.Runs is = absurd (cc is)
-made_it false acted.Runs is = absurd (cc is)
-made_it yields (acted.Starts u) is = absurd (cc is)
-made_it yields acted.Parks is = absurd (cc is)
-made_it yields acted.Leaves is = absurd (cc is)
-made_it yields acted.Begins is = absurd (cc is)
-made_it yields acted.Lost is = absurd (cc is)
-made_it yields acted.Ends is = absurd (cc is)
-made_it yields acted.Gone is = absurd (cc is)
-made_it yields acted.NoMemory is = absurd (cc is)
-
-module _ (launch : Launch) (begins : MayBegin launch.tree launch.grants) (v w : Passing) (t : ℕ) (threads : Threads) (turns : List ℕ) (was : Guest)
-    (now : Phase) where
-  -- a pass that moved before the call has seen no entry of its process more
-  called_moved : (after : Standing) (done : Did) → done ≢ did.Forks → Moved launch v w → IsCalled t (standing_of w threads turns was now) after done
-      → IsCalled t (standing_of v threads turns was now) after done
-  called_moved after done n (inl same) made =
-      subst (λ (x : Passing). IsCalled t (standing_of x threads turns was now) after done) same made
-  called_moved after done n (inr looked) made =
-      called_earlier t (record (standing_of v threads turns was now) { seen = w.seen }) after v.seen done n
-      (subst (λ (x : ℕ × List Entry). IsCalled t (record (standing_of w threads turns was now) { pid = x.0; own = x.1 }) after done)
-      (λ i. (looked.0.pid i, own_none launch v w looked.0 i)) made)
-
-  module _ (x : Passing) (call : Call) (guest : Guest) where
-    pub call_tells : HasNoChild call → (threads' : Threads) (taken none : List ℕ) (later : Phase) (done : Did) (yields : Bool) (outcome : Acted) (old : Standing)
-        → (is_yield call ≡ true → yields ≡ true) → Moved launch v w → Tied launch w threads turns was (phase.Calls t) → taken ≡ turns
-        → IsActed launch w t taken call guest x outcome → none ≡ [] → threads' ≡ threads_after_act threads t outcome
-        → done ≡ did_after_act yields outcome → later ≡ phase_after done → standing_of v threads turns was now ≡ old
-        → IsCalled t old (standing_of x threads' none guest later) done
-    call_tells plain threads' taken none later done yields outcome old gives moved tied all told no_turns threads_are done_is after is =
-        subst (λ (s : Standing). IsCalled t s (standing_of x threads' none guest later) done) is
-        (called_moved (standing_of x threads' none guest later) done (λ forks. made_it yields outcome (sym done_is ∙ forks)) moved
-        (call_made launch begins w x t threads turns call was guest now plain threads' taken none later done yields outcome gives tied.0 all told no_turns threads_are
-        done_is after))
+  pub asked_tells : (what : Asked) (result : Came After) (gives : Bool) (threads' : Threads) (later : Phase) (old : Standing) → get body.threads t ≡ Some (doing_of what)
+      → (IsWake what → now ≡ phase.Lives) → ((call : Call) → what ≡ asked.Calls call → HasNoChild call) → GivesWay what gives
+      → IsActed launch v t body what body' w result → threads' ≡ threads_after body'.threads t result → later ≡ phase_after result → before ≡ old
+      → IsAsked launch t what old (standing_of w (record body' { threads = threads' }) later) result gives
+  asked_tells what result gives threads' later old does lives plain way told threads_are phase_is is =
+      subst (λ (x : Standing × Threads × Phase). IsAsked launch t what x.0 (standing_of w (record body' { threads = x.1 }) x.2) result gives)
+      (λ i. (is i, sym threads_are i, sym phase_is i)) (asked_by what result gives does lives plain way told)
 
 -- ---- a proc_fork
 
-module _ (launch : Launch) (begins : MayBegin launch.tree launch.grants) (v w : Passing) (t : ℕ) (threads : Threads) (turns taken none : List ℕ) (call : Call)
-    (was guest : Guest) (now later : Phase) (done : Did) (outcome : Result (Option (Passing × Guest)) NotMade) (old : Standing)
-    (stands : Stands (world launch v.seen) v.pid threads turns was) (all : taken ≡ turns) (told : Acting.IsForked launch v t taken call guest w outcome)
-    (no_turns : none ≡ []) (done_is : done ≡ did_after_fork outcome) (after : later ≡ phase_after done) (is : standing_of v threads turns was now ≡ old) where
-  there_told : Acting.IsForked launch v t turns call guest w outcome
-  there_told = subst (λ (ts : List ℕ). Acting.IsForked launch v t ts call guest w outcome) all told
+-- what a guest asks for by it
+abbrev forking : Guest → Asked
+forking guest = asked.Calls (ProcFork guest.left)
 
-  forked_so : (child : Option Standing) → ForkedBy launch begins v w t threads turns call was guest now outcome child
-      → IsForked t old (standing_of w threads none guest later) done child
-  forked_so child so =
-      subst (λ (x : Standing × List ℕ × Phase × Did). IsForked t x.0 (standing_of w threads x.1 guest x.2) x.3 child)
-      (λ i. (is i, sym no_turns i, sym (after ∙ ap phase_after done_is) i, sym done_is i)) so
+-- a child came of it, or none
+pub born_some : (result : Came (Option (Passing × Guest))) (child : Passing × Guest) → born result ≡ Some child → result ≡ came.Done (Some child)
+born_some (came.Done made) child is = ap came.Done is
+born_some came.NotReady child is = absurd (cc is)
+born_some came.Gone child is = absurd (cc is)
+born_some came.NoMemory child is = absurd (cc is)
 
-  pub none_tells : HasNone outcome → IsForked t old (standing_of w threads none guest later) done None
-  none_tells empty = forked_so None (none_by launch begins v w t threads turns call was guest now outcome stands there_told empty)
+-- no child came of it
+abbrev pub HasNone : Came (Option (Passing × Guest)) → Type 0
+HasNone (came.Done (Some child)) = ⊥
+HasNone other = Unit {0}
 
-  pub child_tells : (pass : Passing) (begun : Guest) (one : Threads) (noted : List ℕ) → outcome ≡ Ok (Some (pass, begun)) → one ≡ alone t → noted ≡ []
-      → IsForked t old (standing_of w threads none guest later) done (Some (standing_of pass one noted begun phase.Lives))
-  child_tells pass begun one noted made one_is noted_is =
-      forked_so (Some (standing_of pass one noted begun phase.Lives))
-      (subst (λ (x : Result (Option (Passing × Guest)) NotMade × Threads × List ℕ).
-      ForkedBy launch begins v w t threads turns call was guest now x.0 (Some (standing_of pass x.1 x.2 begun phase.Lives)))
-      (λ i. (sym made i, sym one_is i, sym noted_is i))
-      (child_by launch begins v w t threads turns call was guest now pass begun stands
-      (subst (Acting.IsForked launch v t turns call guest w) made there_told)))
+pub born_none : (result : Came (Option (Passing × Guest))) → born result ≡ None → HasNone result
+born_none (came.Done None) is = tt
+born_none (came.Done (Some child)) is = absurd (cc is)
+born_none came.NotReady is = tt
+born_none came.Gone is = tt
+born_none came.NoMemory is = tt
 
--- ---- a wake
+module _ (launch : Launch) (begins : MayBegin launch.tree launch.grants) (v w : Passing) (t : ℕ) (body body' : Body) (now : Phase)
+    (stands : Stands (world launch v.seen) v.pid body.threads body.turns body.guest) (runs : get body.threads t ≡ Some doing.Runs) where
+  abbrev parent : Standing
+  parent = standing_of v body now
 
-module _ (launch : Launch) (begins : MayBegin launch.tree launch.grants) (v w : Passing) (t : ℕ) (threads : Threads) (turns turns' : List ℕ)
-    (was guest : Guest) (now : Phase) where
-  enters_wake : (threads' : Threads) (after : Phase) → AddedWake launch v t turns w → turns' ≡ []
-      → EntersWake t (standing_of v threads turns was phase.Lives) (standing_of w threads' turns' guest after)
-  enters_wake threads' after told none = record {
-    call = told.call;
-    given = told.given;
-    answered = told.answered;
-    entry = record {
-      moment = told.moment;
-      own = own_one launch v w (answered_call (head_of told.moment v.pid t turns) told.call (Some told.given) told.answered) told.added;
-      turns = none;
-    };
-  }
+  abbrev forked : Came (Option (Passing × Guest)) → Standing
+  forked result = standing_of w (settled body' t (going_on result)) (phase_after (going_on result))
 
-  finish_by : (outcome : Woken) → Tied launch v threads turns was phase.Lives → IsWoken launch v t turns guest w outcome
-      → KeepsTurns was guest turns turns' outcome
-      → IsFinished launch t (standing_of v threads turns was phase.Lives)
-      (standing_of w (threads_after_wake threads t outcome) turns' guest (phase_after (did_after_wake outcome))) (did_after_wake outcome)
-  finish_by woken.Runs tied told kept = (
-    record {
-      lives = refl;
-      left = left_by_wake launch begins v w told.0.moment t turns told.0.call told.0.answered was tied.0.live tied.0.guest_is told.0.given guest
-          told.0.added told.1.guest_is;
-      threads_are = refl;
-    },
-    enters_wake (insert threads t doing.Runs) phase.Lives told.0 kept,
-  )
-  finish_by woken.Parks tied told kept = (
-    record {
-      lives = refl;
-      left = left_by_wake launch begins v w told.0.moment t turns told.0.call told.0.answered was tied.0.live tied.0.guest_is told.0.given guest
-          told.0.added told.1.guest_is;
-      threads_are = refl;
-    },
-    enters_wake threads phase.Lives told.0 kept,
-  )
-  finish_by woken.Ends tied told kept = (refl, inl (enters_wake threads phase.Gone told.0 kept))
-  finish_by woken.NotReady tied told kept = (
-    (λ i. record {
-      pid = told.0.pid i;
-      phase = phase.Lives;
-      threads = threads;
-      left = (kept.0 i).left;
-      turns = kept.1 i;
-      seen = w.seen;
-      own = own_none launch v w told.0 i;
-    }),
-    subst (λ (p : ℕ). IsNotReady launch w.seen p t) (sym told.0.pid) told.1,
-  )
-  finish_by woken.Gone tied told kept = (refl, inr (own_none launch v w told.0))
-  finish_by woken.NoMemory tied told kept = (refl, own_none launch v w told.0)
+  threads_stay : body'.threads ≡ body.threads → insert body'.threads t doing.Runs ≡ body.threads
+  threads_stay same = ap (λ (m : Threads). insert m t doing.Runs) same ∙ put_same body.threads t doing.Runs runs
 
-  pub finish_tells : (threads' : Threads) (later : Phase) (done : Did) (outcome : Woken) (old : Standing) → Tied launch v threads turns was now
-      → WaitsIn t old → IsWoken launch v t turns guest w outcome → KeepsTurns was guest turns turns' outcome
-      → threads' ≡ threads_after_wake threads t outcome → done ≡ did_after_wake outcome → later ≡ phase_after done
-      → standing_of v threads turns was now ≡ old → IsFinished launch t old (standing_of w threads' turns' guest later) done
-  finish_tells threads' later done outcome old tied waits told kept threads_are done_is after is =
-      let there : now ≡ phase.Lives = ap (λ (s : Standing). s.phase) is ∙ waits.0 in
-      let from : standing_of v threads turns was phase.Lives ≡ old = ap (standing_of v threads turns was) (sym there) ∙ is in
-      let so : later ≡ phase_after (did_after_wake outcome) = after ∙ ap phase_after done_is in
-      subst (λ (x : Standing × Threads × Phase × Did). IsFinished launch t x.0 (standing_of w x.1 turns' guest x.2) x.3)
-      (λ i. (from i, sym threads_are i, sym so i, sym done_is i))
-      (finish_by outcome (subst (Tied launch v threads turns was) there tied) told kept)
+  enters_fork : (result : Came (Option (Passing × Guest))) (log : List Entry) (child : Option ℕ) → body'.turns ≡ [] → w.pid ≡ v.pid → Later v.pid v.seen log
+      → (entered : Entered launch log v.pid t body.turns (forking body.guest) w.seen) → child_of entered.act ≡ child → EntersFork t parent (forked result) child
+  unfolding enters
+  enters_fork result log child none pid later entered tells =
+      record { entry = enters launch begins v w t body body' now stands (forking body.guest) log (forked result) refl none pid later entered; tells = tells }
 
--- ---- an end from outside
+  none_by : (result : Came (Option (Passing × Guest))) (gives : Bool) → Acting.IsForked launch v t body (ProcFork body.guest.left) body' w result → HasNone result
+      → IsForked t parent (forked result) (going_on result) gives None
+  none_by (came.Done (Some child)) gives told none = absurd none
+  none_by (came.Done None) gives told none =
+      let on = told.happens.0.came in
+      let kept = told.happens.0.kept in
+      let at = stands_then launch begins v w t body body' stands told.log told.seen told.later (forking body.guest) on.0 in (
+        record {
+          lives = refl;
+          left = left_after_call launch told.log w.seen v.pid t body.turns (forking body.guest) on.0 body.guest at.guest_is (ProcFork body.guest.left)
+              on.0.answers.0 body'.guest on.0.answers.1 on.1.0.guest_is
+              (λ own. none_is_no v.pid (sym on.1.2 ∙ ap child_of on.0.answers.1 ∙ own))
+              ∙ ap (λ (o : Option ℕ). (less_share o body.guest).left) (sym (ap child_of on.0.answers.1) ∙ on.1.2);
+          threads_are = threads_stay kept.1;
+        },
+        enters_fork (came.Done None) told.log None kept.0 told.pid told.later on.0 on.1.2,
+      )
+  none_by came.NotReady gives told none = absurd told.happens.0.came.2
+  none_by came.Gone gives told none =
+      (refl, own_none launch begins v w t body body' now stands told.log told.pid told.happens.0.came.0 told.later)
+  none_by came.NoMemory gives told none =
+      (refl, own_none launch begins v w t body body' now stands told.log told.pid told.happens.0.came.0 told.later)
 
-module _ (launch : Launch) (v w : Passing) (t : ℕ) (threads : Threads) (turns : List ℕ) (how : EndBy) (guest : Guest) (now : Phase) where
-  stopped_by : (taken : List ℕ) (outcome : Stopped) → taken ≡ turns → IsStopped launch v t taken how w outcome → IsStopped launch v t turns how w outcome
-  stopped_by taken outcome all told = subst (λ (ts : List ℕ). IsStopped launch v t ts how w outcome) all told
+  -- the child is another process, since no entry is of it
+  is_other : (log : List Entry) (what : Asked) → Entered launch log v.pid t body.turns what w.seen → (q : ℕ) → own q w.seen ≡ [] → Some q ≢ Some v.pid
+  is_other log what entered q none same =
+      let there : q ≡ v.pid = cc same in
+      no_end (own v.pid log) _
+      (sym (own_entered launch log w.seen v.pid t body.turns what entered) ∙ ap (λ (p : ℕ). own p w.seen) (sym there) ∙ none)
 
-  enters_end : AddedEnd launch v t turns how w
-      → Enters t (standing_of v threads turns guest now) (act_of how) (standing_of w threads [] guest phase.Gone)
-  enters_end told = record { moment = told.moment; own = own_one launch v w _ told.added; turns = refl }
+  child_by : (pass : Passing) (begun : Guest) → Acting.IsForked launch v t body (ProcFork body.guest.left) body' w (came.Done (Some (pass, begun)))
+      → IsForked t parent (forked (came.Done (Some (pass, begun)))) (came.Done to.Runs) true
+      (Some (standing_of pass (record { guest = begun; threads = alone t; turns = [] }) phase.Lives))
+  child_by pass begun told =
+      let on = told.happens.0.came in
+      let kept = told.happens.0.kept in
+      let what = forking body.guest in
+      let at = stands_then launch begins v w t body body' stands told.log told.seen told.later what on.0 in
+      let tells : child_told (ProcFork body.guest.left) on.0.answers.0 ≡ Some pass.pid = sym (ap child_of on.0.answers.1) ∙ on.1.2 in (
+        record {
+          lives = refl;
+          left = left_after_call launch told.log w.seen v.pid t body.turns what on.0 body.guest at.guest_is (ProcFork body.guest.left) on.0.answers.0 body'.guest
+              on.0.answers.1 on.1.0.guest_is (λ own. is_other told.log what on.0 pass.pid on.1.3.none (sym tells ∙ own))
+              ∙ ap (λ (o : Option ℕ). (less_share o body.guest).left) tells;
+          threads_are = threads_stay kept.1;
+        },
+        enters_fork (came.Done (Some (pass, begun))) told.log (Some pass.pid) kept.0 told.pid told.later on.0 on.1.2,
+        record {
+          lives = refl;
+          threads_are = refl;
+          left = left_by_birth launch told.log w.seen v.pid t body.turns what on.0 body.guest at.guest_is (ProcFork body.guest.left) on.0.answers.0 pass.pid begun
+              on.0.answers.1 on.1.3.goes_on.guest_is tells;
+          turns = refl;
+          seen = told.happens.1;
+          none = ap (own pass.pid) told.happens.1 ∙ on.1.3.none;
+        },
+        refl,
+      )
 
-  end_by_outcome : (outcome : Stopped) → IsStopped launch v t turns how w outcome
-      → IsEnded how t (standing_of v threads turns guest now) (standing_of w threads [] guest (phase_after (did_after_end outcome))) (did_after_end outcome)
-  end_by_outcome stopped.Done told = (refl, inl (enters_end told.0))
-  end_by_outcome stopped.Gone told = (refl, inr (own_none launch v w told.0))
-  end_by_outcome stopped.NoMemory told = (refl, own_none launch v w told.0)
+  module _ (threads' : Threads) (later : Phase) (old : Standing) (ran : Came After) (result : Came (Option (Passing × Guest)))
+      (told : Acting.IsForked launch v t body (ProcFork body.guest.left) body' w result) (ran_is : ran ≡ going_on result) (threads_are : threads' ≡ threads_after body'.threads t ran)
+      (phase_is : later ≡ phase_after ran) (is : parent ≡ old) where
+    forked_so : (gives : Bool) (child : Option Standing) → IsForked t parent (forked result) (going_on result) gives child
+        → IsForked t old (standing_of w (record body' { threads = threads' }) later) ran gives child
+    forked_so gives child so =
+        subst (λ (x : Standing × Threads × Phase × Came After). IsForked t x.0 (standing_of w (record body' { threads = x.1 }) x.2) x.3 gives child)
+        (λ i. (is i, sym (threads_are ∙ ap (threads_after body'.threads t) ran_is) i, sym (phase_is ∙ ap phase_after ran_is) i, sym ran_is i)) so
 
-  pub end_tells : (taken none : List ℕ) (later : Phase) (done : Did) (outcome : Stopped) (old : Standing) → taken ≡ turns
-      → IsStopped launch v t taken how w outcome → none ≡ [] → done ≡ did_after_end outcome → later ≡ phase_after done
-      → standing_of v threads turns guest now ≡ old → IsEnded how t old (standing_of w threads none guest later) done
-  end_tells taken none later done outcome old all told empty done_is after is =
-      let so : later ≡ phase_after (did_after_end outcome) = after ∙ ap phase_after done_is in
-      subst (λ (x : Standing × List ℕ × Phase × Did). IsEnded how t x.0 (standing_of w threads x.1 guest x.2) x.3)
-      (λ i. (is i, sym empty i, sym so i, sym done_is i)) (end_by_outcome outcome (stopped_by taken outcome all told))
+    pub none_tells : (gives : Bool) → HasNone result → IsForked t old (standing_of w (record body' { threads = threads' }) later) ran gives None
+    none_tells gives none = forked_so gives None (none_by result gives told none)
+
+  module _ (threads' : Threads) (later : Phase) (old : Standing) (ran : Came After) (result : Came (Option (Passing × Guest)))
+      (told : Acting.IsForked launch v t body (ProcFork body.guest.left) body' w result) (ran_is : ran ≡ going_on result) (threads_are : threads' ≡ threads_after body'.threads t ran)
+      (phase_is : later ≡ phase_after ran) (is : parent ≡ old) where
+    pub child_tells : (pass : Passing) (begun : Guest) (one : Threads) (noted : List ℕ) (gives : Bool) → result ≡ came.Done (Some (pass, begun)) → one ≡ alone t
+        → noted ≡ [] → gives ≡ true
+        → IsForked t old (standing_of w (record body' { threads = threads' }) later) ran gives
+        (Some (standing_of pass (record { guest = begun; threads = one; turns = noted }) phase.Lives))
+    child_tells pass begun one noted gives made one_is noted_is way =
+        subst (λ (x : Threads × List ℕ × Bool). IsForked t old (standing_of w (record body' { threads = threads' }) later) ran x.2
+        (Some (standing_of pass (record { guest = begun; threads = x.0; turns = x.1 }) phase.Lives))) (λ i. (sym one_is i, sym noted_is i, sym way i))
+        (forked_so threads' later old ran (came.Done (Some (pass, begun)))
+        (subst (Acting.IsForked launch v t body (ProcFork body.guest.left) body' w) made told) (ran_is ∙ ap going_on made) threads_are phase_is is true
+        (Some (standing_of pass (record { guest = begun; threads = alone t; turns = [] }) phase.Lives))
+        (child_by pass begun (subst (Acting.IsForked launch v t body (ProcFork body.guest.left) body' w) made told)))

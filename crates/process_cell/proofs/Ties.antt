@@ -1,27 +1,24 @@
 -- A process stays tied to its world.
---     tied_first, tied_turn, tied_moved, tied_act, tied_stopped, tied_fork, tied_wake, tied_end      after each of what a process does
---     tied_child      a child at its start
---     asks_call, asks_fork, asks_wake, asks_end      what it asks the kernel for
-use Rattle.std.proofs.Common.{◌≡◌, ◌≢◌, ℕ, ◌<◌, Bool, true, false, List, [], ◌∷◌, ◌++◌, Option, None, Some, IsSome, Result, Ok, Err, inl, inr, refl, sym, ap, subst, ◌∙◌}
+--     tied_first, tied_turn, tied_came, tied_forks, tied_child, looked_lives, looked_gone      after each of what a process does
+--     calls_there, forks_there, has_registers, has_registers_running, between, does, due_stands, due_runs, no_fork,
+--     asks_call, asks_fork, asks_wake, asks_end      what it asks the kernel for, and what is known of it then
+--     made_in, same_at, stands_at, stands_then, settled, has_place      the process at the history at which something was done
+use Rattle.std.proofs.Common.{◌≡◌, ◌≢◌, ℕ, ◌<◌, Bool, true, false, List, [], ◌∷◌, ◌++◌, Option, None, Some, IsSome, inl, inr, refl, sym, ap, subst, ◌∙◌}
 use Rattle.std.proofs.lemmas.Bool.Decides.{eqb_tells}
 use Rattle.std.specs.FinMap.{FinMap, empty, get, insert, remove, get-empty}
 use Rattle.std.specs.Option.{option_map}
 use Rattle.std.specs.Ordering.{nat_cmp}
-use Rattle.abi_base.specs.declared.errno.Errno.TheVariants.{Nosys}
 use Rattle.abi_types.specs.declared.call.Call.{Call}
 use Rattle.abi_types.specs.declared.call.Call.TheVariants.{ProcFork}
-use Rattle.abi_types.specs.declared.reply.Answer.{Answer}
-use Rattle.abi_types.specs.declared.reply.Answer.TheVariants as answer
 use Rattle.abi_types.specs.declared.status.Status.TheVariants.{Live}
 use Rattle.abi_types.specs.declared.thread.Thread.{Thread}
 use Rattle.abi_types.specs.declared.thread.Thread.TheVariants.{Runnable}
 use Rattle.abi_types.specs.declared.thread.Thread.TheVariants.{Waits as Blocked}
-use Rattle.run_types.specs.declared.history.Act.TheVariants as act
+use Rattle.run_types.specs.declared.history.Act.{Act}
 use Rattle.run_types.specs.declared.history.Entry.{Entry}
 use Rattle.run_types.specs.declared.launch.Launch.{Launch}
-use Rattle.maps.specs.Maps.{get-insert-same, get-insert-other, get-remove-same, get-remove-other}
+use Rattle.maps.specs.Maps.{get-insert-same, get-insert-other, get-remove-same, get-remove-other, same_around}
 use Rattle.kernel_model.specs.Families.Locks.{called, given}
-use Rattle.kernel_model.specs.Reply.{refused}
 use Rattle.kernel_model.specs.State.{State, thread_in, thread_of, threads_of}
 use Rattle.kernel_model.specs.Threads.{is_given, is_signalled, stays, IsMoved}
 use Rattle.kernel_model.specs.Waits.{IsParked}
@@ -34,32 +31,32 @@ use Rattle.call_codec.specs.Arguments.{args_of}
 use Rattle.call_codec.specs.Start.{first_registers}
 use Rattle.call_codec.proofs.ProcessLaws.{fork_turns}
 use Rattle.run_model.specs.Legal.{AreWhole, IsRunnable, Legal, MayTurn, LastEnds}
-use Rattle.run_model.specs.Own.{IsLiveIn, Same}
-use Rattle.run_model.specs.World.{World, Guest, world, start_world, guest_of, first_guest, registers_of, thread_at, turned_guest, turned_guest_by, turn_end}
-use Rattle.run_model.proofs.Asks.{asks_stay, whole_there}
-use Rattle.run_model.proofs.Histories.{world_none, first_guest_is, first_state, first_threads, turned_more, whole_more}
+use Rattle.run_model.specs.Own.{IsLiveIn, Made, Same}
+use Rattle.run_model.specs.World.{World, Guest, world, start_world, guest_of, first_guest, registers_of, turned_guest, turned_guest_by, turn_end}
+use Rattle.run_model.proofs.Asks.{whole_there}
+use Rattle.run_model.proofs.Histories.{legal_front, world_none, first_guest_is, first_state, first_threads, turned_more, whole_more}
 use Rattle.run_model.proofs.Own.{left_alone, same_threads}
 use Rattle.run_model.proofs.Registers.{legal_has_registers}
-use Rattle.kernel_cell.specs.Acting.{AsksCall, AsksEnd, AsksWake, GoesOn, HasNoChild, HasStarted, IsActed, IsAlone, IsChild, IsForked, IsStopped, IsWoken, KeepsBut, KeepsTurns, Looked, WaitsOn}
-use Rattle.shared_history.specs.Passes.{IsSeen, Passing}
-use Rattle.kernel_cell.specs.declared.results.Acted.{Acted}
-use Rattle.kernel_cell.specs.declared.results.Acted.TheVariants as acted
+use Rattle.shared_history.specs.Entries.{entry_of, head_of}
+use Rattle.shared_history.specs.Passes.{IsSeen, Later, Passing}
+use Rattle.kernel_cell.specs.Acting.{Became, Entered, HasStarted, IsActed, IsActedOn, IsAlone, IsChild, IsForked, IsForkedOn, KeepsBut, Looked, by_number, going_on}
+use Rattle.kernel_cell.specs.Asking.{Asks, AsksCall, HasNoChild}
+use Rattle.kernel_cell.specs.Places.{Threads, with_made}
+use Rattle.kernel_cell.specs.declared.results.After.{After}
+use Rattle.kernel_cell.specs.declared.results.After.TheVariants as to
+use Rattle.kernel_cell.specs.declared.results.Asked.{Asked}
+use Rattle.kernel_cell.specs.declared.results.Asked.TheVariants as asked
+use Rattle.kernel_cell.specs.declared.results.Body.{Body}
+use Rattle.kernel_cell.specs.declared.results.Came.{Came}
+use Rattle.kernel_cell.specs.declared.results.Came.TheVariants as came
+use Rattle.kernel_cell.specs.declared.results.Doing.{Doing}
+use Rattle.kernel_cell.specs.declared.results.Doing.TheVariants as doing
 use Rattle.kernel_cell.specs.declared.results.EndBy.{EndBy}
 use Rattle.kernel_cell.specs.declared.results.EndBy.TheVariants as end_by
-use Rattle.kernel_cell.specs.declared.results.NotMade.{NotMade}
-use Rattle.kernel_cell.specs.declared.results.NotMade.TheVariants as not_made
-use Rattle.kernel_cell.specs.declared.results.Stopped.{Stopped}
-use Rattle.kernel_cell.specs.declared.results.Stopped.TheVariants as stopped
-use Rattle.kernel_cell.specs.declared.results.Woken.{Woken}
-use Rattle.kernel_cell.specs.declared.results.Woken.TheVariants as woken
-use Rattle.process_cell.specs.Phases.{Threads, alone, phase_after, phase_after_turn, did_after_act, did_after_end, did_after_fork, did_after_wake, did_running}
-use Rattle.process_cell.specs.Phases.{threads_after_act, threads_after_wake}
-use Rattle.process_cell.specs.Places.{Moved}
+use Rattle.kernel_cell.proofs.PassOutcomes.{answers_busy}
+use Rattle.process_cell.specs.Phases.{alone, phase_after, phase_after_turn, threads_after, HasPlaceFor}
 use Rattle.process_cell.specs.Process.{AreThreads, DoesSo, IsDue, RunsIn, Stands, TiedIn, Tied, Waits, WaitsIn, new_pass, standing_of}
 use Rattle.process_cell.specs.Standing.{Standing}
-use Rattle.process_cell.specs.declared.results.Did.{Did}
-use Rattle.process_cell.specs.declared.results.Doing.{Doing}
-use Rattle.process_cell.specs.declared.results.Doing.TheVariants as doing
 use Rattle.process_cell.specs.declared.results.Phase.{Phase}
 use Rattle.process_cell.specs.declared.results.Phase.TheVariants as phase
 
@@ -166,10 +163,11 @@ first_at launch =
     subst (λ (w : World). TiedIn w 0 first_doing [] (first_guest launch) phase.Lives) (sym (world_none launch)) (stands_first launch, tt)
 
 pub tied_first : (launch : Launch) (pass : Passing) (threads : Threads) (turns : List ℕ) (guest : Guest) → pass ≡ new_pass
-    → threads ≡ first_doing → turns ≡ [] → guest ≡ first_guest launch → Tied launch pass threads turns guest phase.Lives
+    → threads ≡ first_doing → turns ≡ [] → guest ≡ first_guest launch
+    → Tied launch pass (record { guest = guest; threads = threads; turns = turns }) phase.Lives
 tied_first launch pass threads turns guest new one none is =
-    subst (λ (x : Passing × Threads × List ℕ × Guest). Tied launch x.0 x.1 x.2 x.3 phase.Lives)
-    (λ i. (sym new i, sym one i, sym none i, sym is i)) (first_at launch)
+    subst (λ (x : Passing × Body). Tied launch x.0 x.1 phase.Lives)
+    (λ i. (sym new i, record { guest = sym is i; threads = sym one i; turns = sym none i })) (first_at launch)
 
 -- ---- a turn
 
@@ -212,36 +210,48 @@ module _ (w : World) (p t : ℕ) (threads : Threads) (turns : List ℕ) (guest :
   tied_after turn_end_is.Ecall is = (stands_after, runs, last turn_end_is.Ecall is)
   tied_after (turn_end_is.Trap signal) is = (stands_after, runs, last (turn_end_is.Trap signal) is)
 
-pub tied_turn : (launch : Launch) (pass : Passing) (t : ℕ) (threads : Threads) (turns more : List ℕ) (guest after : Guest) (now later : Phase)
-    (end : TurnEnd) (old : Standing) → Tied launch pass threads turns guest now → standing_of pass threads turns guest now ≡ old → RunsIn t old
-    → 0 < old.left → more ≡ turns ++ t ∷ [] → after ≡ turned_guest guest t → end ≡ turn_end guest t → later ≡ phase_after_turn t end
-    → Tied launch pass threads more after later
-tied_turn launch pass t threads turns more guest turned now later end old tied is runs some one did ends phase_is =
-    let before : Tied launch pass threads turns guest phase.Lives =
-    subst (Tied launch pass threads turns guest) (ap (λ (s : Standing). s.phase) is ∙ runs.0) tied in
-    subst (λ (x : List ℕ × Guest × Phase). Tied launch pass threads x.0 x.1 x.2) (λ i. (sym one i, sym did i, sym phase_is i))
-    (tied_after (world launch pass.seen) pass.pid t threads turns guest before (ap (λ (s : Standing). get s.threads t) is ∙ runs.1)
+pub tied_turn : (launch : Launch) (pass : Passing) (t : ℕ) (body : Body) (more : List ℕ) (after : Guest) (now later : Phase)
+    (end : TurnEnd) (old : Standing) → Tied launch pass body now → standing_of pass body now ≡ old → RunsIn t old
+    → 0 < old.left → more ≡ body.turns ++ t ∷ [] → after ≡ turned_guest body.guest t → end ≡ turn_end body.guest t → later ≡ phase_after_turn t end
+    → Tied launch pass (record { guest = after; threads = body.threads; turns = more }) later
+tied_turn launch pass t body more turned now later end old tied is runs some one did ends phase_is =
+    let before : Tied launch pass body phase.Lives = subst (Tied launch pass body) (ap (λ (s : Standing). s.phase) is ∙ runs.0) tied in
+    subst (λ (x : List ℕ × Guest × Phase). Tied launch pass (record { guest = x.1; threads = body.threads; turns = x.0 }) x.2)
+    (λ i. (sym one i, sym did i, sym phase_is i))
+    (tied_after (world launch pass.seen) pass.pid t body.threads body.turns body.guest before (ap (λ (s : Standing). get s.threads t) is ∙ runs.1)
     (subst (λ (s : Standing). 0 < s.left) (sym is) some) end ends)
 
 -- ---- what is asked for
 
-module _ (launch : Launch) (v : Passing) (t : ℕ) (threads : Threads) (turns : List ℕ) (guest : Guest) (now : Phase) (old : Standing)
-    (tied : Tied launch v threads turns guest now) (is : standing_of v threads turns guest now ≡ old) where
+module _ (launch : Launch) (v : Passing) (t : ℕ) (body : Body) (now : Phase) (old : Standing) (tied : Tied launch v body now)
+    (is : standing_of v body now ≡ old) where
   -- the process in the phase that contracts see
-  tied_in : (seen : Phase) → old.phase ≡ seen → Tied launch v threads turns guest seen
-  tied_in seen there = subst (Tied launch v threads turns guest) (ap (λ (s : Standing). s.phase) is ∙ there) tied
+  tied_in : (seen : Phase) → old.phase ≡ seen → Tied launch v body seen
+  tied_in seen there = subst (Tied launch v body) (ap (λ (s : Standing). s.phase) is ∙ there) tied
 
-  does : (what : Doing) → get old.threads t ≡ Some what → get threads t ≡ Some what
+  pub calls_there : old.phase ≡ phase.Calls t → Tied launch v body (phase.Calls t)
+  calls_there calls = tied_in (phase.Calls t) calls
+
+  pub forks_there : old.phase ≡ phase.Forks t → Tied launch v body (phase.Forks t)
+  forks_there forks = tied_in (phase.Forks t) forks
+
+  pub phase_is : {seen : Phase} → old.phase ≡ seen → now ≡ seen
+  phase_is there = ap (λ (s : Standing). s.phase) is ∙ there
+
+  pub between : old.phase ≡ phase.Lives → Tied launch v body phase.Lives
+  between lives = tied_in phase.Lives lives
+
+  pub does : (what : Doing) → get old.threads t ≡ Some what → get body.threads t ≡ Some what
   does what there = ap (λ (s : Standing). get s.threads t) is ∙ there
 
   -- its thread has registers
-  pub has_registers : old.phase ≡ phase.Calls t → IsSome (get guest.regs t)
-  has_registers calls = let there = tied_in (phase.Calls t) calls in there.0.registers t (subst IsSome (sym there.1) refl)
+  pub has_registers : old.phase ≡ phase.Calls t → IsSome (get body.guest.regs t)
+  has_registers calls = let there = calls_there calls in there.0.registers t (subst IsSome (sym there.1) refl)
 
-  pub has_registers_running : RunsIn t old → IsSome (get guest.regs t)
+  pub has_registers_running : RunsIn t old → IsSome (get body.guest.regs t)
   has_registers_running runs = (tied_in phase.Lives runs.0).0.registers t (subst IsSome (sym (does doing.Runs runs.1)) refl)
 
-  pub asks_wake : WaitsIn t old → AsksWake (world launch v.seen) v.pid t turns guest
+  pub asks_wake : WaitsIn t old → Asks (world launch v.seen) v.pid t body asked.Wakes
   asks_wake waits =
       let there = tied_in phase.Lives waits.0 in
       let parks : Waits (thread_of (world launch v.seen).state v.pid t) =
@@ -253,7 +263,7 @@ module _ (launch : Launch) (v : Passing) (t : ℕ) (threads : Threads) (turns : 
         waits = record { thread = parks.0; there = parks.1; waits = parks.2 };
       }
 
-  pub asks_end : (how : EndBy) → IsDue how t old → AsksEnd (world launch v.seen) v.pid t turns how
+  pub asks_end : (how : EndBy) → IsDue how t old → Asks (world launch v.seen) v.pid t body (asked.Ends how)
   asks_end (end_by.Trap signal) due = (tied_in (phase.Traps t signal) due).2
   asks_end end_by.Expire due =
       let there = tied_in phase.Lives due.0.0 in (
@@ -262,119 +272,119 @@ module _ (launch : Launch) (v : Passing) (t : ℕ) (threads : Threads) (turns : 
         sym (ap (λ (g : Guest). g.left) there.0.guest_is) ∙ ap (λ (s : Standing). s.left) is ∙ due.1,
       )
 
-  pub does_wait : WaitsIn t old → IsSome (get threads t)
-  does_wait waits = subst IsSome (sym (does doing.Waits waits.1)) refl
+  -- an end that is due is of a thread that takes turns
+  pub due_stands : (how : EndBy) → IsDue how t old → Stands (world launch v.seen) v.pid body.threads body.turns body.guest
+  due_stands (end_by.Trap signal) due = (tied_in (phase.Traps t signal) due).0
+  due_stands end_by.Expire due = (tied_in phase.Lives due.0.0).0
 
-pub asks_call : (launch : Launch) (v : Passing) (t : ℕ) (threads : Threads) (turns taken : List ℕ) (guest : Guest) (call : Call)
-    → Tied launch v threads turns guest (phase.Calls t) → call ≡ args_of guest.memory (registers_of guest t) guest.left → taken ≡ turns
-    → AsksCall (world launch v.seen) v.pid t taken guest call
-asks_call launch v t threads turns taken guest call tied encoded all =
-    subst (λ (ts : List ℕ). AsksCall (world launch v.seen) v.pid t ts guest call) (sym all) (record {
-      guest_is = tied.0.guest_is;
-      registers = tied.0.registers t (subst IsSome (sym tied.1) refl);
-      asks = λ given. (tied.2, encoded ∙ ap (λ (g : Guest). args_of g.memory (registers_of g t) g.left) tied.0.guest_is);
-    })
+  pub due_runs : (how : EndBy) → IsDue how t old → get body.threads t ≡ Some doing.Runs
+  due_runs (end_by.Trap signal) due = (tied_in (phase.Traps t signal) due).1
+  due_runs end_by.Expire due = does doing.Runs due.0.1
+
+-- a call that is no proc_fork makes no child
+pub no_fork : (call : Call) → ((left : ℕ) → call ≡ ProcFork left → ⊥) → HasNoChild call
+no_fork (ProcFork left) other = absurd (other left refl)
+no_fork call other = tt
+
+module _ (launch : Launch) (v : Passing) (t : ℕ) (body : Body) where
+  asks_by : (call : Call) → Stands (world launch v.seen) v.pid body.threads body.turns body.guest → get body.threads t ≡ Some doing.Runs
+      → LastEnds (world launch v.seen).state v.pid (guest_of (world launch v.seen) v.pid) body.turns t turn_end_is.Ecall
+      → call ≡ args_of body.guest.memory (registers_of body.guest t) body.guest.left → AsksCall (world launch v.seen) v.pid t body.turns body.guest call
+  asks_by call stands runs last encoded = record {
+    guest_is = stands.guest_is;
+    registers = stands.registers t (subst IsSome (sym runs) refl);
+    asks = λ given. (last, encoded ∙ ap (λ (g : Guest). args_of g.memory (registers_of g t) g.left) stands.guest_is);
+  }
+
+  pub asks_call : (call : Call) → Tied launch v body (phase.Calls t) → call ≡ args_of body.guest.memory (registers_of body.guest t) body.guest.left
+      → ((left : ℕ) → call ≡ ProcFork left → ⊥) → Asks (world launch v.seen) v.pid t body (asked.Calls call)
+  asks_call call tied encoded other = (asks_by call tied.0 tied.1 tied.2 encoded, no_fork call other)
+
+  pub asks_fork : (left : ℕ) → left ≡ body.guest.left → Tied launch v body (phase.Forks t)
+      → AsksCall (world launch v.seen) v.pid t body.turns body.guest (ProcFork left)
+  asks_fork left all tied = asks_by (ProcFork left) tied.0 tied.1 tied.2 (ap ProcFork all ∙ sym tied.3)
+
+  -- a call that is a proc_fork is one with the turns that are left
+  pub tied_forks : (call : Call) (left : ℕ) (later : Phase) → Tied launch v body (phase.Calls t)
+      → call ≡ args_of body.guest.memory (registers_of body.guest t) body.guest.left → call ≡ ProcFork left → later ≡ phase.Forks t → Tied launch v body later
+  tied_forks call left later there encoded forks phase_is =
+      let fork : args_of body.guest.memory (registers_of body.guest t) body.guest.left ≡ ProcFork left = sym encoded ∙ forks in
+      let all : left ≡ body.guest.left = fork_turns body.guest.memory (registers_of body.guest t) body.guest.left left fork in
+      subst (Tied launch v body) (sym phase_is) (there.0, there.1, there.2, fork ∙ ap ProcFork all)
 
 -- ---- a process after entries of others
 
 -- what is said of the pass's process is said of the same process by the pass's number
-at_pass : (launch : Launch) (v : Passing) (p : ℕ) (threads : Threads) (turns : List ℕ) (guest : Guest) (now : Phase) → v.pid ≡ p
-    → TiedIn (world launch v.seen) p threads turns guest now → Tied launch v threads turns guest now
-at_pass launch v p threads turns guest now same tied = subst (λ (q : ℕ). TiedIn (world launch v.seen) q threads turns guest now) (sym same) tied
+at_pass : (launch : Launch) (v : Passing) (p : ℕ) (body : Body) (now : Phase) → v.pid ≡ p
+    → TiedIn (world launch v.seen) p body.threads body.turns body.guest now → Tied launch v body now
+at_pass launch v p body now same tied =
+    subst (λ (q : ℕ). TiedIn (world launch v.seen) q body.threads body.turns body.guest now) (sym same) tied
 
--- some answer, by which what is asked whatever the answer is can be read
-some_answer : Answer
-some_answer = answer.Reply (refused Nosys)
+-- a process that stands in a world was made there
+pub made_in : (w : World) (p : ℕ) → IsLiveIn w p → Made w p
+made_in w p live = subst IsSome (sym live) refl
 
-module _ (launch : Launch) (begins : MayBegin launch.tree launch.grants) (v w : Passing) (threads : Threads) (turns : List ℕ) (was : Guest)
-    (stands : Stands (world launch v.seen) v.pid threads turns was)
-    (looked : Looked launch v w) (live : IsLiveIn (world launch w.seen) v.pid) where
-  same_since : Same (world launch w.seen) (world launch v.seen) v.pid
-  same_since =
-      left_alone launch v.seen looked.later.beginning.0 w.seen v.pid begins looked.seen.legal (sym looked.later.beginning.1) looked.later.same
-      (subst IsSome (sym stands.live) refl) live
+-- at a history to which entries of others alone led, the process is what it was, if it is live
+pub same_at : (launch : Launch) → MayBegin launch.tree launch.grants → (p : ℕ) (seen log : List Entry) → Legal launch log → Later p seen log
+    → IsLiveIn (world launch seen) p → IsLiveIn (world launch log) p → Same (world launch log) (world launch seen) p
+same_at launch begins p seen log legal later was live =
+    left_alone launch seen later.beginning.0 log p begins legal (sym later.beginning.1) later.same (made_in (world launch seen) p was) live
 
-  threads_since : threads_of (world launch w.seen).state v.pid ≡ threads_of (world launch v.seen).state v.pid
-  threads_since = same_threads (world launch w.seen) (world launch v.seen) v.pid same_since
+module _ (launch : Launch) (begins : MayBegin launch.tree launch.grants) (p : ℕ) (seen log : List Entry) (legal : Legal launch log) (later : Later p seen log)
+    (threads : Threads) (turns : List ℕ) (was : Guest) (stands : Stands (world launch seen) p threads turns was) (live : IsLiveIn (world launch log) p) where
+  there : Same (world launch log) (world launch seen) p
+  there = same_at launch begins p seen log legal later stands.live live
 
-  stands_still : Stands (world launch w.seen) v.pid threads turns was
-  stands_still = record {
+  threads_there : threads_of (world launch log).state p ≡ threads_of (world launch seen).state p
+  threads_there = same_threads (world launch log) (world launch seen) p there
+
+  pub stands_at : Stands (world launch log) p threads turns was
+  stands_at = record {
     live = live;
-    are = λ u. subst (DoesSo (get threads u)) (sym (ap (λ o. thread_in o u) threads_since)) (stands.are u);
-    guest_is = stands.guest_is ∙ ap (turned_guest_by turns) (sym same_since.guest);
+    are = λ u. subst (DoesSo (get threads u)) (sym (ap (λ o. thread_in o u) threads_there)) (stands.are u);
+    guest_is = stands.guest_is ∙ ap (turned_guest_by turns) (sym there.guest);
     registers = stands.registers;
   }
 
-  whole_still : AreWhole (world launch v.seen).state v.pid (guest_of (world launch v.seen) v.pid) turns
-      → AreWhole (world launch w.seen).state v.pid (guest_of (world launch w.seen) v.pid) turns
-  whole_still whole =
-      subst (λ (g : Guest). AreWhole (world launch w.seen).state v.pid g turns) (sym same_since.guest)
-      (whole_there (world launch v.seen).state (world launch w.seen).state v.pid threads_since (guest_of (world launch v.seen) v.pid) turns whole)
+  lives_at : AreWhole (world launch seen).state p (guest_of (world launch seen) p) turns → TiedIn (world launch log) p threads turns was phase.Lives
+  lives_at whole = (
+    stands_at,
+    subst (λ (g : Guest). AreWhole (world launch log).state p g turns) (sym there.guest)
+        (whole_there (world launch seen).state (world launch log).state p threads_there (guest_of (world launch seen) p) turns whole),
+  )
 
-  call_still : (t : ℕ) → LastEnds (world launch v.seen).state v.pid (guest_of (world launch v.seen) v.pid) turns t turn_end_is.Ecall
-      → LastEnds (world launch w.seen).state v.pid (guest_of (world launch w.seen) v.pid) turns t turn_end_is.Ecall
-  call_still t last =
-      let guest : Guest = turned_guest_by turns (guest_of (world launch v.seen) v.pid) in
-      (asks_stay (world launch v.seen) (world launch w.seen) (thread_at (world launch v.seen).state v.pid t) turns
-      (act.Call (args_of guest.memory (registers_of guest t) guest.left) some_answer) same_since.guest threads_since (last, refl)).0
+-- after a look
+pub looked_lives : (launch : Launch) → MayBegin launch.tree launch.grants → (v w : Passing) (body : Body) → Tied launch v body phase.Lives → Looked launch v w
+    → IsLiveIn (world launch w.seen) v.pid → Tied launch w body phase.Lives
+looked_lives launch begins v w body tied looked live =
+    at_pass launch w v.pid body phase.Lives looked.pid
+    (lives_at launch begins v.pid v.seen w.seen looked.seen.legal looked.later body.threads body.turns body.guest tied.0 live tied.1)
 
-  -- the process is what it was, if it is live: between two turns, and before a call
-  lives_still : AreWhole (world launch v.seen).state v.pid (guest_of (world launch v.seen) v.pid) turns → Tied launch w threads turns was phase.Lives
-  lives_still whole = at_pass launch w v.pid threads turns was phase.Lives looked.pid (stands_still, whole_still whole)
+pub looked_gone : (launch : Launch) (v w : Passing) (body : Body) → Looked launch v w → ¬ IsLiveIn (world launch w.seen) v.pid → Tied launch w body phase.Gone
+looked_gone launch v w body looked dead = at_pass launch w v.pid body phase.Gone looked.pid dead
 
-  calls_still : (t : ℕ) → get threads t ≡ Some doing.Runs
-      → LastEnds (world launch v.seen).state v.pid (guest_of (world launch v.seen) v.pid) turns t turn_end_is.Ecall
-      → Tied launch w threads turns was (phase.Calls t)
-  calls_still t runs last = at_pass launch w v.pid threads turns was (phase.Calls t) looked.pid (stands_still, runs, call_still t last)
+-- ---- what came of what a thread asked for
 
-calls_moved : (launch : Launch) → MayBegin launch.tree launch.grants → (v w : Passing) (t : ℕ) (threads : Threads) (turns : List ℕ) (was : Guest) → Tied launch v threads turns was (phase.Calls t)
-    → Moved launch v w → Tied launch w threads turns was (phase.Calls t)
-calls_moved launch begins v w t threads turns was tied (inl same) = subst (λ (x : Passing). Tied launch x threads turns was (phase.Calls t)) (sym same) tied
-calls_moved launch begins v w t threads turns was tied (inr looked) =
-    calls_still launch begins v w threads turns was tied.0 looked.0 looked.1 t tied.1 tied.2
-
--- the process that is to make a call, where its pass has moved
-pub tied_moved : (launch : Launch) → MayBegin launch.tree launch.grants → (v w : Passing) (t : ℕ) (threads : Threads) (turns : List ℕ) (was : Guest) (now : Phase) (old : Standing)
-    → Tied launch v threads turns was now → standing_of v threads turns was now ≡ old → old.phase ≡ phase.Calls t → Moved launch v w
-    → Tied launch w threads turns was (phase.Calls t)
-tied_moved launch begins v w t threads turns was now old tied is calls moved =
-    calls_moved launch begins v w t threads turns was (subst (Tied launch v threads turns was) (ap (λ (s : Standing). s.phase) is ∙ calls) tied) moved
-
--- ---- a call
-
-module _ (launch : Launch) (v w : Passing) (t : ℕ) (threads : Threads) (are : AreThreads (world launch v.seen) v.pid threads) where
+module _ (launch : Launch) (log after : List Entry) (p t : ℕ) (threads : Threads) (are : AreThreads (world launch log) p threads) where
   -- nothing changed but what thread t does
-  keeps_do : (threads' : Threads) → KeepsBut launch v.seen w.seen v.pid t → ((u : ℕ) → u ≢ t → get threads' u ≡ get threads u)
-      → DoesSo (get threads' t) (thread_of (world launch w.seen).state v.pid t) → AreThreads (world launch w.seen) v.pid threads'
-  keeps_do threads' keeps same at = are_but (world launch v.seen) (world launch w.seen) v.pid t threads threads' are keeps same at
+  keeps_do : (threads' : Threads) → KeepsBut launch log after p t → ((u : ℕ) → u ≢ t → get threads' u ≡ get threads u)
+      → DoesSo (get threads' t) (thread_of (world launch after).state p t) → AreThreads (world launch after) p threads'
+  keeps_do threads' keeps same at = are_but (world launch log) (world launch after) p t threads threads' are keeps same at
 
-  runs_do : (runs : get threads t ≡ Some doing.Runs) → (guest : Guest) → GoesOn launch w.seen v.pid t guest → KeepsBut launch v.seen w.seen v.pid t
-      → AreThreads (world launch w.seen) v.pid threads
-  runs_do runs guest goes keeps =
-      keeps_do threads keeps (λ u apart. refl)
-      (subst (λ (o : Option Doing). DoesSo o (thread_of (world launch w.seen).state v.pid t)) (sym runs) goes.runnable)
-
-  waits_do : (waits : get threads t ≡ Some doing.Waits) → (guest : Guest) → WaitsOn launch w.seen v.pid t guest → KeepsBut launch v.seen w.seen v.pid t
-      → AreThreads (world launch w.seen) v.pid threads
-  waits_do waits guest on keeps =
-      keeps_do threads keeps (λ u apart. refl)
-      (subst (λ (o : Option Doing). DoesSo o (thread_of (world launch w.seen).state v.pid t)) (sym waits) (on.waits.thread, on.waits.there, on.waits.waits))
-
-  put_do : (what : Doing) → KeepsBut launch v.seen w.seen v.pid t → DoesSo (Some what) (thread_of (world launch w.seen).state v.pid t)
-      → AreThreads (world launch w.seen) v.pid (insert threads t what)
+  put_do : (what : Doing) → KeepsBut launch log after p t → DoesSo (Some what) (thread_of (world launch after).state p t)
+      → AreThreads (world launch after) p (insert threads t what)
   put_do what keeps at =
       keeps_do (insert threads t what) keeps (get-insert-other threads t what)
-      (subst (λ (o : Option Doing). DoesSo o (thread_of (world launch w.seen).state v.pid t)) (sym (get-insert-same threads t what)) at)
+      (subst (λ (o : Option Doing). DoesSo o (thread_of (world launch after).state p t)) (sym (get-insert-same threads t what)) at)
 
-  left_do : KeepsBut launch v.seen w.seen v.pid t → thread_of (world launch w.seen).state v.pid t ≡ None
-      → AreThreads (world launch w.seen) v.pid (remove threads t)
+  left_do : KeepsBut launch log after p t → thread_of (world launch after).state p t ≡ None → AreThreads (world launch after) p (remove threads t)
   left_do keeps at =
       keeps_do (remove threads t) keeps (get-remove-other threads t)
-      (subst (λ (o : Option Doing). DoesSo o (thread_of (world launch w.seen).state v.pid t)) (sym (get-remove-same threads t)) at)
+      (subst (λ (o : Option Doing). DoesSo o (thread_of (world launch after).state p t)) (sym (get-remove-same threads t)) at)
 
-starts_do : (launch : Launch) (v w : Passing) (u : ℕ) (threads : Threads) → AreThreads (world launch v.seen) v.pid threads
-    → HasStarted launch v.seen w.seen v.pid u → AreThreads (world launch w.seen) v.pid (insert threads u doing.Runs)
-starts_do launch v w u threads are started = put_do launch v w u threads are doing.Runs started.others started.runs
+starts_do : (launch : Launch) (log after : List Entry) (p u : ℕ) (threads : Threads) → AreThreads (world launch log) p threads
+    → HasStarted launch log after p u → AreThreads (world launch after) p (insert threads u doing.Runs)
+starts_do launch log after p u threads are started = put_do launch log after p u threads are doing.Runs started.others started.runs
 
 -- a thread that is the only one takes turns alone
 alone_do : (launch : Launch) (history : List Entry) (p t : ℕ) → IsRunnable (world launch history).state p t → IsAlone launch history p t
@@ -388,159 +398,136 @@ alone_do launch history p t runs none u =
           (none u apart.1)
     ]
 
--- a thread that goes on leaves its process between two steps
-running_lives : (yields : Bool) → phase_after (did_running yields) ≡ phase.Lives
-running_lives true = refl
-running_lives false = refl
+module _ (launch : Launch) (begins : MayBegin launch.tree launch.grants) (log after : List Entry) (p t : ℕ) (threads threads' : Threads) (guest : Guest) (a : Act)
+    (legal : Legal launch after) (are : AreThreads (world launch log) p threads) where
+  became_at : (x : After) → Became launch log p t after guest a x → threads' ≡ with_made x threads
+      → TiedIn (world launch after) p (threads_after threads' t (came.Done x)) [] guest (phase_after (came.Done x))
+  became_at to.Runs became is =
+      lives_there launch begins after p (insert threads' t doing.Runs) guest legal became.0.live
+      (subst (λ (m : Threads). AreThreads (world launch after) p (insert m t doing.Runs)) (sym is)
+      (put_do launch log after p t threads are doing.Runs became.1 became.0.runnable)) became.0.guest_is
+  became_at (to.Starts u) became is =
+      lives_there launch begins after p threads' guest legal became.0.live
+      (subst (AreThreads (world launch after) p) (sym is) (starts_do launch log after p u threads are became.1)) became.0.guest_is
+  became_at to.Waits became is =
+      lives_there launch begins after p (insert threads' t doing.Waits) guest legal became.0.live
+      (subst (λ (m : Threads). AreThreads (world launch after) p (insert m t doing.Waits)) (sym is)
+      (put_do launch log after p t threads are doing.Waits became.1 (became.0.waits.thread, became.0.waits.there, became.0.waits.waits))) became.0.guest_is
+  became_at to.Leaves became is =
+      lives_there launch begins after p (remove threads' t) guest legal became.0.live
+      (subst (λ (m : Threads). AreThreads (world launch after) p (remove m t)) (sym is) (left_do launch log after p t threads are became.1 became.0.gone))
+      became.0.guest_is
+  became_at to.Begins became is =
+      lives_there launch begins after p (alone t) guest legal became.0.live (alone_do launch after p t became.0.runnable became.1) became.0.guest_is
+  became_at to.Lost became is = tt
+  became_at to.Ended became is = became
 
-module _ (launch : Launch) (begins : MayBegin launch.tree launch.grants) (v w : Passing) (t : ℕ) (threads : Threads) (turns : List ℕ) (call : Call) (guest : Guest)
-    (are : AreThreads (world launch v.seen) v.pid threads) (runs : get threads t ≡ Some doing.Runs) where
-  acted_at : (yields : Bool) (outcome : Acted) → IsActed launch v t turns call guest w outcome
-      → Tied launch w (threads_after_act threads t outcome) [] guest (phase_after (did_after_act yields outcome))
-  acted_at yields acted.Runs told =
-      subst (Tied launch w threads [] guest) (sym (running_lives yields))
-      (at_pass launch w v.pid threads [] guest phase.Lives told.0.added.pid
-      (lives_there launch begins w.seen v.pid threads guest told.0.added.seen.legal told.1.live (runs_do launch v w t threads are runs guest told.1 told.2)
-      told.1.guest_is))
-  acted_at yields (acted.Starts u) told =
-      at_pass launch w v.pid (insert threads u doing.Runs) [] guest phase.Lives told.0.added.pid
-      (lives_there launch begins w.seen v.pid (insert threads u doing.Runs) guest told.0.added.seen.legal told.1.live
-      (starts_do launch v w u threads are told.2) told.1.guest_is)
-  acted_at yields acted.Parks told =
-      at_pass launch w v.pid (insert threads t doing.Waits) [] guest phase.Lives told.0.added.pid
-      (lives_there launch begins w.seen v.pid (insert threads t doing.Waits) guest told.0.added.seen.legal told.1.live
-      (put_do launch v w t threads are doing.Waits told.2 (told.1.waits.thread, told.1.waits.there, told.1.waits.waits)) told.1.guest_is)
-  acted_at yields acted.Leaves told =
-      at_pass launch w v.pid (remove threads t) [] guest phase.Lives told.0.added.pid
-      (lives_there launch begins w.seen v.pid (remove threads t) guest told.0.added.seen.legal told.1.live
-      (left_do launch v w t threads are told.2 told.1.gone) told.1.guest_is)
-  acted_at yields acted.Begins told =
-      at_pass launch w v.pid (alone t) [] guest phase.Lives told.0.added.pid
-      (lives_there launch begins w.seen v.pid (alone t) guest told.0.added.seen.legal told.1.live
-      (alone_do launch w.seen v.pid t told.1.runnable told.2) told.1.guest_is)
-  acted_at yields acted.Lost told = tt
-  acted_at yields acted.Ends told = at_pass launch w v.pid threads [] guest phase.Gone told.0.added.pid told.1
-  acted_at yields acted.Gone told = at_pass launch w v.pid threads [] guest phase.Gone told.0.pid told.1
-  acted_at yields acted.NoMemory told = tt
+-- what a process has after that: its threads do what came of it
+abbrev pub settled : Body → ℕ → Came After → Body
+settled body t result = record body { threads = threads_after body.threads t result }
 
-pub tied_act : (launch : Launch) → MayBegin launch.tree launch.grants → (v w : Passing) (t : ℕ) (threads threads' : Threads) (turns taken none : List ℕ) (call : Call) (was guest : Guest)
-    (later : Phase) (yields : Bool) (outcome : Acted) (done : Did) → Tied launch v threads turns was (phase.Calls t)
-    → IsActed launch v t taken call guest w outcome → threads' ≡ threads_after_act threads t outcome → done ≡ did_after_act yields outcome
-    → none ≡ [] → later ≡ phase_after done → Tied launch w threads' none guest later
-tied_act launch begins v w t threads threads' turns taken none call was guest later yields outcome done tied told threads_are done_is no_turns phase_is =
-    subst (λ (x : Threads × List ℕ × Phase). Tied launch w x.0 x.1 guest x.2)
-    (λ i. (sym threads_are i, sym no_turns i, sym (phase_is ∙ ap phase_after done_is) i))
-    (acted_at launch begins v w t threads taken call guest tied.0.are tied.1 yields outcome told)
+module _ (launch : Launch) (begins : MayBegin launch.tree launch.grants) (v w : Passing) (t : ℕ) (body body' : Body)
+    (stands : Stands (world launch v.seen) v.pid body.threads body.turns body.guest) where
+  -- where the process lives on without an entry, it is as it was
+  abbrev StaysAs : Asked → Type 0
+  StaysAs asked.Wakes = AreWhole (world launch v.seen).state v.pid (guest_of (world launch v.seen) v.pid) body.turns
+  StaysAs what = Unit {0}
+
+  module _ (log : List Entry) (seen : IsSeen launch v.pid w.seen) (later : Later v.pid v.seen log) where
+    -- where no entry came
+    legal_same : w.seen ≡ log → Legal launch log
+    legal_same same = subst (Legal launch) same seen.legal
+
+    waits_at : w.pid ≡ v.pid → w.seen ≡ log → IsLiveIn (world launch log) v.pid → body' ≡ body
+        → AreWhole (world launch v.seen).state v.pid (guest_of (world launch v.seen) v.pid) body.turns → Tied launch w body' phase.Lives
+    waits_at pid same live kept whole =
+        subst (λ (b : Body). Tied launch w b phase.Lives) (sym kept)
+        (at_pass launch w v.pid body phase.Lives pid
+        (subst (λ (h : List Entry). TiedIn (world launch h) v.pid body.threads body.turns body.guest phase.Lives) (sym same)
+        (lives_at launch begins v.pid v.seen log (legal_same same) later body.threads body.turns body.guest stands live whole)))
+
+    -- the process at the history at which an entry of it came
+    pub stands_then : (what : Asked) → Entered launch log v.pid t body.turns what w.seen → Stands (world launch log) v.pid body.threads body.turns body.guest
+    stands_then what entered =
+        stands_at launch begins v.pid v.seen log
+        (legal_front launch log (entry_of (head_of entered.moment v.pid t body.turns) entered.act ∷ []) (subst (Legal launch) entered.last seen.legal)) later
+        body.threads body.turns body.guest stands (entered.fits.live (answers_busy what entered.act entered.answers))
+
+  came_at : (what : Asked) (result : Came After) → IsActed launch v t body what body' w result → StaysAs what
+      → Tied launch w (settled body' t result) (phase_after result)
+  came_at what (came.Done x) told whole =
+      let on = told.happens.came in
+      let kept = told.happens.kept in
+      at_pass launch w v.pid (settled body' t (came.Done x)) (phase_after (came.Done x)) told.pid
+      (subst (λ (ts : List ℕ). TiedIn (world launch w.seen) v.pid (threads_after body'.threads t (came.Done x)) ts body'.guest (phase_after (came.Done x)))
+      (sym kept.0)
+      (became_at launch begins told.log w.seen v.pid t body.threads body'.threads body'.guest on.0.act told.seen.legal
+      (stands_then told.log told.seen told.later what on.0).are x on.1.1 kept.1))
+  came_at asked.Wakes came.NotReady told whole =
+      waits_at told.log told.seen told.later told.pid told.happens.came.0 told.happens.came.1.0 told.happens.kept whole
+  came_at (asked.Calls call) came.NotReady told whole = absurd told.happens.came.2
+  came_at (asked.Ends how) came.NotReady told whole = absurd told.happens.came.2
+  came_at what came.Gone told whole =
+      at_pass launch w v.pid body' phase.Gone told.pid
+      (subst (λ (h : List Entry). ¬ IsLiveIn (world launch h) v.pid) (sym told.happens.came.0) told.happens.came.1)
+  came_at what came.NoMemory told whole = tt
+
+  pub tied_came : (what : Asked) (result : Came After) (threads' : Threads) (later : Phase) → IsActed launch v t body what body' w result → StaysAs what
+      → threads' ≡ threads_after body'.threads t result → later ≡ phase_after result → Tied launch w (record body' { threads = threads' }) later
+  tied_came what result threads' later told whole threads_are phase_is =
+      subst (λ (x : Threads × Phase). Tied launch w (record body' { threads = x.0 }) x.1) (λ i. (sym threads_are i, sym phase_is i))
+      (came_at what result told whole)
+
+  -- thread t has its place
+  pub has_place : (what : Asked) (result : Came After) → IsActed launch v t body what body' w result → IsSome (get body.threads t)
+      → HasPlaceFor t body'.threads result
+  has_place what (came.Done to.Runs) told here = subst (λ (m : Threads). IsSome (get m t)) (sym told.happens.kept.1) here
+  has_place what (came.Done (to.Starts u)) told here = tt
+  has_place what (came.Done to.Waits) told here = subst (λ (m : Threads). IsSome (get m t)) (sym told.happens.kept.1) here
+  has_place what (came.Done to.Leaves) told here = tt
+  has_place what (came.Done to.Begins) told here = subst (λ (m : Threads). IsSome (get m t)) (sym told.happens.kept.1) here
+  has_place what (came.Done to.Lost) told here = tt
+  has_place what (came.Done to.Ended) told here = tt
+  has_place what came.NotReady told here = tt
+  has_place what came.Gone told here = tt
+  has_place what came.NoMemory told here = tt
 
 -- ---- a proc_fork
 
--- a call that is a proc_fork is one with the turns that are left
-pub tied_stopped : (launch : Launch) (v : Passing) (t left : ℕ) (threads : Threads) (turns : List ℕ) (guest : Guest) (now later : Phase) (call : Call) (old : Standing)
-    → Tied launch v threads turns guest now → standing_of v threads turns guest now ≡ old → old.phase ≡ phase.Calls t
-    → call ≡ args_of guest.memory (registers_of guest t) guest.left → call ≡ ProcFork left → later ≡ phase.Forks t
-    → Tied launch v threads turns guest later
-tied_stopped launch v t left threads turns guest now later call old tied is calls encoded forks phase_is =
-    let there : Tied launch v threads turns guest (phase.Calls t) =
-    subst (Tied launch v threads turns guest) (ap (λ (s : Standing). s.phase) is ∙ calls) tied in
-    let fork : args_of guest.memory (registers_of guest t) guest.left ≡ ProcFork left = sym encoded ∙ forks in
-    let all : left ≡ guest.left = fork_turns guest.memory (registers_of guest t) guest.left left fork in
-    subst (Tied launch v threads turns guest) (sym phase_is) (there.0, there.1, there.2, fork ∙ ap ProcFork all)
+-- it is a call after which the thread goes on
+acted_fork : (launch : Launch) (log now : List Entry) (p t : ℕ) (body : Body) (call : Call) (body' : Body) (result : Came (Option (ℕ × Guest)))
+    → IsForkedOn launch log p t body call body' now result → IsActedOn launch log p t body (asked.Calls call) body' now (going_on result)
+acted_fork launch log now p t body call body' (came.Done None) on =
+    record { came = (on.came.0, (tt, (on.came.1.0, on.came.1.1))); kept = on.kept; unanswered = tt }
+acted_fork launch log now p t body call body' (came.Done (Some child)) on =
+    record { came = (on.came.0, (tt, (on.came.1.0, on.came.1.1))); kept = on.kept; unanswered = tt }
+acted_fork launch log now p t body call body' came.NotReady on = record { came = on.came; kept = on.kept; unanswered = tt }
+acted_fork launch log now p t body call body' came.Gone on = record { came = on.came; kept = on.kept; unanswered = tt }
+acted_fork launch log now p t body call body' came.NoMemory on = record { came = on.came; kept = on.kept; unanswered = tt }
 
--- a call that is none makes no child
-pub no_fork : (call : Call) → ((left : ℕ) → call ≡ ProcFork left → ⊥) → HasNoChild call
-no_fork (ProcFork left) other = absurd (other left refl)
-no_fork call other = tt
+same_going : (result : Came (Option (Passing × Guest))) → going_on (by_number result) ≡ going_on result
+same_going (came.Done None) = refl
+same_going (came.Done (Some child)) = refl
+same_going came.NotReady = refl
+same_going came.Gone = refl
+same_going came.NoMemory = refl
 
-module _ (launch : Launch) (begins : MayBegin launch.tree launch.grants) (v w : Passing) (t : ℕ) (threads : Threads) (turns : List ℕ) (was : Guest)
-    (tied : Tied launch v threads turns was (phase.Forks t)) where
-  pub asks_fork : (taken : List ℕ) (call : Call) → taken ≡ turns → call ≡ ProcFork was.left → AsksCall (world launch v.seen) v.pid t taken was call
-  asks_fork taken call all forks =
-      subst (λ (ts : List ℕ). AsksCall (world launch v.seen) v.pid t ts was call) (sym all) (record {
-        guest_is = tied.0.guest_is;
-        registers = tied.0.registers t (subst IsSome (sym tied.1) refl);
-        asks = λ given. (tied.2, forks ∙ sym tied.3 ∙ ap (λ (g : Guest). args_of g.memory (registers_of g t) g.left) tied.0.guest_is);
-      })
-
-  -- the process goes on
-  forker_lives : (guest : Guest) → w.pid ≡ v.pid → IsSeen launch v.pid w.seen → GoesOn launch w.seen v.pid t guest → KeepsBut launch v.seen w.seen v.pid t
-      → Tied launch w threads [] guest phase.Lives
-  forker_lives guest same seen goes keeps =
-      at_pass launch w v.pid threads [] guest phase.Lives same
-      (lives_there launch begins w.seen v.pid threads guest seen.legal goes.live (runs_do launch v w t threads tied.0.are tied.1 guest goes keeps)
-      goes.guest_is)
-
-  forked_at : (taken : List ℕ) (call : Call) (guest : Guest) (outcome : Result (Option (Passing × Guest)) NotMade)
-      → IsForked launch v t taken call guest w outcome → Tied launch w threads [] guest (phase_after (did_after_fork outcome))
-  forked_at taken call guest (Ok (Some child)) told =
-      forker_lives guest told.0.added.pid told.0.added.seen told.1 told.2
-  forked_at taken call guest (Ok None) told = forker_lives guest told.0.added.pid told.0.added.seen told.1 told.2
-  forked_at taken call guest (Err not_made.Gone) told = at_pass launch w v.pid threads [] guest phase.Gone told.0.pid told.1
-  forked_at taken call guest (Err not_made.NoMemory) told = tt
-
-  pub tied_fork : (taken none : List ℕ) (call : Call) (guest : Guest) (outcome : Result (Option (Passing × Guest)) NotMade) (done : Did) (later : Phase)
-      → IsForked launch v t taken call guest w outcome → none ≡ [] → done ≡ did_after_fork outcome → later ≡ phase_after done
-      → Tied launch w threads none guest later
-  tied_fork taken none call guest outcome done later told no_turns done_is phase_is =
-      subst (λ (x : List ℕ × Phase). Tied launch w threads x.0 guest x.1) (λ i. (sym no_turns i, sym (phase_is ∙ ap phase_after done_is) i))
-      (forked_at taken call guest outcome told)
-
--- the process in the phase that contracts see
-pub forks_there : (launch : Launch) (v : Passing) (t : ℕ) (threads : Threads) (turns : List ℕ) (guest : Guest) (now : Phase) (old : Standing)
-    → Tied launch v threads turns guest now → standing_of v threads turns guest now ≡ old → old.phase ≡ phase.Forks t
-    → Tied launch v threads turns guest (phase.Forks t)
-forks_there launch v t threads turns guest now old tied is forks =
-    subst (Tied launch v threads turns guest) (ap (λ (s : Standing). s.phase) is ∙ forks) tied
+pub fork_is_acted : (launch : Launch) (v w : Passing) (t : ℕ) (body : Body) (call : Call) (body' : Body) (result : Came (Option (Passing × Guest))) (ran : Came After)
+    → IsForked launch v t body call body' w result → ran ≡ going_on result → IsActed launch v t body (asked.Calls call) body' w ran
+fork_is_acted launch v w t body call body' result ran told is =
+    subst (IsActed launch v t body (asked.Calls call) body' w) (same_going result ∙ sym is) (record {
+      pid = told.pid;
+      seen = told.seen;
+      log = told.log;
+      later = told.later;
+      happens = acted_fork launch told.log w.seen v.pid t body call body' (by_number result) told.happens.0;
+    })
 
 -- the child, which has its thread alone
 pub tied_child : (launch : Launch) → MayBegin launch.tree launch.grants → (v : Passing) (t : ℕ) (seen : List Entry) (threads : Threads) (turns : List ℕ)
-    (guest : Guest) → v.seen ≡ seen → IsChild launch seen t v.pid guest → threads ≡ alone t → turns ≡ [] → Tied launch v threads turns guest phase.Lives
+    (guest : Guest) → v.seen ≡ seen → IsChild launch seen t v.pid guest → threads ≡ alone t → turns ≡ []
+    → Tied launch v (record { guest = guest; threads = threads; turns = turns }) phase.Lives
 tied_child launch begins v t seen threads turns guest same child one none =
     subst (λ (x : List Entry × Threads × List ℕ). TiedIn (world launch x.0) v.pid x.1 x.2 guest phase.Lives) (λ i. (sym same i, sym one i, sym none i))
     (lives_there launch begins seen v.pid (alone t) guest child.seen.legal child.goes_on.live
     (alone_do launch seen v.pid t child.goes_on.runnable child.alone) child.goes_on.guest_is)
-
--- ---- a wake
-
-module _ (launch : Launch) (begins : MayBegin launch.tree launch.grants) (v w : Passing) (t : ℕ) (threads : Threads) (turns : List ℕ) (was : Guest) where
-  woken_at : (guest : Guest) (turns' : List ℕ) (outcome : Woken) → Tied launch v threads turns was phase.Lives → get threads t ≡ Some doing.Waits
-      → IsWoken launch v t turns guest w outcome → KeepsTurns was guest turns turns' outcome
-      → Tied launch w (threads_after_wake threads t outcome) turns' guest (phase_after (did_after_wake outcome))
-  woken_at guest turns' woken.Runs tied waits told kept =
-      subst (λ (ts : List ℕ). Tied launch w (insert threads t doing.Runs) ts guest phase.Lives) (sym kept)
-      (at_pass launch w v.pid (insert threads t doing.Runs) [] guest phase.Lives told.0.added.pid
-      (lives_there launch begins w.seen v.pid (insert threads t doing.Runs) guest told.0.added.seen.legal told.1.live
-      (put_do launch v w t threads tied.0.are doing.Runs told.2 told.1.runnable) told.1.guest_is))
-  woken_at guest turns' woken.Parks tied waits told kept =
-      subst (λ (ts : List ℕ). Tied launch w threads ts guest phase.Lives) (sym kept)
-      (at_pass launch w v.pid threads [] guest phase.Lives told.0.added.pid
-      (lives_there launch begins w.seen v.pid threads guest told.0.added.seen.legal told.1.live
-      (waits_do launch v w t threads tied.0.are waits guest told.1 told.2) told.1.guest_is))
-  woken_at guest turns' woken.Ends tied waits told kept = at_pass launch w v.pid threads turns' guest phase.Gone told.0.added.pid told.1
-  woken_at guest turns' woken.NotReady tied waits told kept =
-      subst (λ (x : List ℕ × Guest). Tied launch w threads x.0 x.1 phase.Lives) (λ i. (sym kept.1 i, sym kept.0 i))
-      (lives_still launch begins v w threads turns was tied.0 told.0 told.1.0 tied.1)
-  woken_at guest turns' woken.Gone tied waits told kept = at_pass launch w v.pid threads turns' guest phase.Gone told.0.pid told.1
-  woken_at guest turns' woken.NoMemory tied waits told kept = tt
-
-  pub tied_wake : (threads' : Threads) (now later : Phase) (guest : Guest) (turns' : List ℕ) (outcome : Woken) (done : Did) (old : Standing)
-      → Tied launch v threads turns was now → standing_of v threads turns was now ≡ old → WaitsIn t old → IsWoken launch v t turns guest w outcome
-      → KeepsTurns was guest turns turns' outcome → threads' ≡ threads_after_wake threads t outcome → done ≡ did_after_wake outcome
-      → later ≡ phase_after done → Tied launch w threads' turns' guest later
-  tied_wake threads' now later guest turns' outcome done old tied is waits told kept threads_are done_is phase_is =
-      subst (λ (x : Threads × Phase). Tied launch w x.0 turns' guest x.1)
-      (λ i. (sym threads_are i, sym (phase_is ∙ ap phase_after done_is) i))
-      (woken_at guest turns' outcome (subst (Tied launch v threads turns was) (ap (λ (s : Standing). s.phase) is ∙ waits.0) tied)
-      (ap (λ (s : Standing). get s.threads t) is ∙ waits.1) told kept)
-
--- ---- an end from outside
-
-pub tied_end : (launch : Launch) (v w : Passing) (t : ℕ) (threads : Threads) (turns none : List ℕ) (how : EndBy) (guest : Guest) (later : Phase)
-    (outcome : Stopped) (done : Did) → IsStopped launch v t turns how w outcome → done ≡ did_after_end outcome → later ≡ phase_after done
-    → Tied launch w threads none guest later
-tied_end launch v w t threads turns none how guest later outcome done told done_is phase_is =
-    subst (Tied launch w threads none guest) (sym (phase_is ∙ ap phase_after done_is)) (stopped_at outcome told)
-  where
-    stopped_at : (outcome : Stopped) → IsStopped launch v t turns how w outcome → Tied launch w threads none guest (phase_after (did_after_end outcome))
-    stopped_at stopped.Done told = at_pass launch w v.pid threads none guest phase.Gone told.0.added.pid told.1
-    stopped_at stopped.Gone told = at_pass launch w v.pid threads none guest phase.Gone told.0.pid told.1
-    stopped_at stopped.NoMemory told = tt

@@ -4,9 +4,9 @@ use Rattle.std.specs.FinMap.{code}
 use Rattle.std.specs.Coded.{Coded, code_by, coded×, coded_list, coded_ℕ}
 use Rattle.run_types.specs.contracts.history.Entry as entry
 use Rattle.run_types.specs.declared.history.Entry.{Entry}
-use Rattle.process_cell.specs.Phases.{Threads}
+use Rattle.kernel_cell.specs.Places.{Threads}
 use Rattle.process_cell.specs.Standing.{Standing}
-use Rattle.process_cell.specs.contracts.results.Doing as doing
+use Rattle.kernel_cell.specs.contracts.results.Doing as doing
 use Rattle.process_cell.specs.contracts.results.Phase as phase
 use Rattle.process_cell.specs.declared.results.Phase.{Phase}
 

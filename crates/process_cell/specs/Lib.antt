@@ -1,7 +1,6 @@
-pub mod Phases
 pub mod Standing
 pub mod Codes
-pub mod Places
+pub mod Phases
 pub mod Process
 pub mod Steps
 pub mod Driven

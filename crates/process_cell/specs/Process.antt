@@ -5,6 +5,10 @@ use Rattle.abi_types.specs.declared.call.Call.TheVariants.{ProcFork}
 use Rattle.abi_types.specs.declared.thread.Thread.{Thread}
 use Rattle.abi_types.specs.declared.thread.Thread.TheVariants.{Runnable}
 use Rattle.shared_history.specs.Passes.{Passing}
+use Rattle.kernel_cell.specs.Places.{Threads}
+use Rattle.kernel_cell.specs.declared.results.Body.{Body}
+use Rattle.kernel_cell.specs.declared.results.Doing.{Doing}
+use Rattle.kernel_cell.specs.declared.results.Doing.TheVariants as doing
 use Rattle.kernel_cell.specs.declared.results.EndBy.{EndBy}
 use Rattle.kernel_cell.specs.declared.results.EndBy.TheVariants as end_by
 use Rattle.kernel_model.specs.State.{thread_of}
@@ -16,10 +20,7 @@ use Rattle.call_codec.specs.Arguments.{args_of}
 use Rattle.run_model.specs.Legal.{AreWhole, LastEnds}
 use Rattle.run_model.specs.Own.{own, IsLiveIn}
 use Rattle.run_model.specs.World.{World, Guest, world, guest_of, registers_of, turned_guest_by}
-use Rattle.process_cell.specs.Phases.{Threads}
 use Rattle.process_cell.specs.Standing.{Standing}
-use Rattle.process_cell.specs.declared.results.Doing.{Doing}
-use Rattle.process_cell.specs.declared.results.Doing.TheVariants as doing
 use Rattle.process_cell.specs.declared.results.Phase.{Phase}
 use Rattle.process_cell.specs.declared.results.Phase.TheVariants as phase
 
@@ -63,21 +64,21 @@ TiedIn w p threads turns guest phase.Gone = ¬ IsLiveIn w p
 TiedIn w p threads turns guest phase.Lost = Unit {0}
 
 -- in the world of the history that the process's pass has seen
-abbrev pub Tied : Launch → Passing → Threads → List ℕ → Guest → Phase → Type 0
-Tied launch pass threads turns guest now = TiedIn (world launch pass.seen) pass.pid threads turns guest now
+abbrev pub Tied : Launch → Passing → Body → Phase → Type 0
+Tied launch pass body now = TiedIn (world launch pass.seen) pass.pid body.threads body.turns body.guest now
 
 -- the same of a launch that may begin with its tree and its grants
-abbrev pub IsTied : Launch → Passing → Threads → List ℕ → Guest → Phase → Type 0
-IsTied launch pass threads turns guest now = MayBegin launch.tree launch.grants × Tied launch pass threads turns guest now
+abbrev pub IsTied : Launch → Passing → Body → Phase → Type 0
+IsTied launch pass body now = MayBegin launch.tree launch.grants × Tied launch pass body now
 
 -- what contracts see of a process that has these parts
-abbrev pub standing_of : Passing → Threads → List ℕ → Guest → Phase → Standing
-standing_of pass threads turns guest now = record {
+abbrev pub standing_of : Passing → Body → Phase → Standing
+standing_of pass body now = record {
   pid = pass.pid;
   phase = now;
-  threads = threads;
-  left = guest.left;
-  turns = turns;
+  threads = body.threads;
+  left = body.guest.left;
+  turns = body.turns;
   seen = pass.seen;
   own = own pass.pid pass.seen;
 }

@@ -4,13 +4,14 @@
 
 pub use gate::{Gate, OpenGate};
 pub use process::Process;
-pub use results::{Did, Doing, Phase};
+pub use results::{Did, Phase};
 pub use run::{Driven, drive};
+pub use worker::Worker;
 
 mod gate;
-mod place;
 mod process;
 mod results;
 mod run;
 mod tickets;
+mod worker;
 mod workers;

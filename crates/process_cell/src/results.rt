@@ -1,12 +1,13 @@
-//! In which phase a process is, what its threads do, and what came of a step of one.
-ghost use Rattle.std.specs.Prelude.{◌≡◌, ◌≢◌, IsSome, IfSome, IsNone};
+//! In which phase a process is, and what came of a step of a thread.
+ghost use Rattle.std.specs.Prelude.{◌≡◌, true, false, IfSome, IsSome};
 ghost use Rattle.std.specs.FinMap as map;
-ghost use Rattle.process_cell.specs.Phases.{phase_after, phase_after_turn, alone, threads_after_act, threads_after_wake, did_after_act, did_after_fork, did_after_wake, did_after_end, is_yield, IsAloneAt};
-ghost use Rattle.process_cell.specs.Places.{HasPlaceFor};
+ghost use Rattle.process_cell.specs.Phases.{alone, is_yield, phase_after, phase_after_turn, threads_after, HasPlaceFor};
+ghost use Rattle.process_cell.specs.Steps.{born};
+ghost use Rattle.kernel_cell.specs.Acting.{going_on};
 
 use abi_types::{Call, Signal, Tid};
 use guest_process::Guest;
-use kernel_cell::{Acted, Naming, NotMade, Pass, Stopped, Woken};
+use kernel_cell::{After, Came, Doing, Naming, Pass, Times};
 use maps::NumMap;
 use rv_interp::TurnEnd;
 use std::alloc::Global;
@@ -28,38 +29,46 @@ pub enum Phase {
     Lost,
 }
 
-/// What a thread does.
-#[derive(Clone, Copy)]
-pub enum Doing {
-    /// It takes turns.
-    Runs,
-    /// It waits in a call.
-    Waits,
+/// What came of a step of a thread.
+#[derive(Drop)]
+pub struct Did {
+    /// What became of the thread. It is gone also where it had ended before.
+    pub came: Came<After>,
+    /// Whether it gives way to others, where it goes on.
+    pub gives_way: bool,
+    /// What the kernel told with its answer, where it was asked.
+    pub times: Option<Times>,
 }
 
-/// What came of a step of a thread.
-#[derive(Clone, Copy)]
-pub enum Did {
-    /// It goes on.
-    Runs,
-    /// It goes on, and gave way to others.
-    Yields,
-    /// It goes on, and made the thread with this number.
-    Started(Tid),
-    /// It stands at a proc_fork, which `Process::fork` makes.
-    Forks,
-    /// It goes on in another program, and no other thread is left.
-    Begun,
-    /// It waits in the call that it made. Or it has left its condition variable, and waits on for the lock.
-    Parks,
-    /// It isn't ready and waits on, and nothing was done.
-    NotReady,
-    /// It has ended, and its process lives on.
-    ThreadGone,
-    /// Its process has ended.
-    ProcessGone,
-    /// Memory ran out.
-    NoMemory,
+impl Did {
+    /// This, without an answer of the kernel.
+    pub(crate) fn unasked(came: Came<After>) -> Did
+        ensures came { result.came ≡ came }
+        ensures goes { result.gives_way ≡ false }
+    {
+        Did {
+            came,
+            gives_way: false,
+            times: None,
+        }
+    }
+
+    /// This, with what the kernel told. The thread gives way where it is to, and where others are to be looked at again.
+    pub(crate) fn answered(came: Came<After>, gives_way: bool, times: Times) -> Did
+        ensures came { result.came ≡ came }
+        ensures gives { gives_way ≡ true → result.gives_way ≡ true }
+    {
+        Did {
+            came,
+            gives_way: gives_way || !times.wakes.is_empty(),
+            times: Some(times),
+        }
+    }
+
+    /// Whether the thread goes on and keeps its worker.
+    pub(crate) fn goes_on(&self) -> bool {
+        matches!(self.came, Came::Done(After::Runs)) && !self.gives_way
+    }
 }
 
 // The phase after a turn of a thread that ended so.
@@ -73,20 +82,14 @@ pub(crate) fn phase_after_turn(tid: Tid, end: &TurnEnd) -> Phase
     }
 }
 
-// The phase after a call, a wake or an end from outside that came to this.
-pub(crate) fn phase_after(did: &Did) -> Phase
-    ensures { result ≡ phase_after did.now }
+// The phase after a call, a wake or an end from outside of which this came.
+fn phase_after(came: &Came<After>) -> Phase
+    ensures { result ≡ phase_after came.now }
 {
-    match did {
-        Did::Runs
-        | Did::Yields
-        | Did::Started(_)
-        | Did::Begun
-        | Did::Parks
-        | Did::NotReady
-        | Did::ThreadGone => Phase::Lives,
-        Did::ProcessGone => Phase::Gone,
-        Did::Forks | Did::NoMemory => Phase::Lost,
+    match came {
+        Came::Gone | Came::Done(After::Ended) => Phase::Gone,
+        Came::NoMemory | Came::Done(After::Lost) => Phase::Lost,
+        Came::NotReady | Came::Done(_) => Phase::Lives,
     }
 }
 
@@ -95,23 +98,6 @@ pub(crate) fn gives_way(call: &Call) -> bool
     ensures { result ≡ is_yield call.now }
 {
     matches!(call, Call::ThreadYield)
-}
-
-// Whether this call may change a channel on which others wait, give them a lock or signal them, and leave its thread to go on.
-pub(crate) fn may_wake(call: &Call) -> bool {
-    matches!(
-        call,
-        Call::CondvarSignal { .. }
-            | Call::FdRead { .. }
-            | Call::FdWrite { .. }
-            | Call::FdClose { .. }
-            | Call::FdReplace { .. }
-            | Call::LockUnlock { .. }
-            | Call::SockRecv { .. }
-            | Call::SockSend { .. }
-            | Call::SockShutdown { .. }
-            | Call::ProcExec { .. }
-    )
 }
 
 // A thread that takes turns, alone. `None` where memory ran out.
@@ -125,96 +111,67 @@ pub(crate) fn one_running(alloc: Global, tid: Tid) -> Option<NumMap<Doing>>
     }
 }
 
-// The least number that isn't this one, if there is one.
-fn first_other(threads: &NumMap<Doing>, key: u64) -> Option<u64>
-    ensures some { IfSome result (λ other. other ≢ key × IsSome (map.get threads.now other)) }
-    ensures none { IsNone result → IsAloneAt key threads.now }
-{
-    match threads.first_from(0) {
-        Some(first) if first == key => threads.first_after(key),
-        other => other,
-    }
-}
-
 // Takes out all threads but this one, which takes turns. It takes no memory.
 fn keep_only(threads: &mut NumMap<Doing>, tid: Tid)
     requires { IsSome (map.get threads.old tid) }
     ensures { threads.new ≡ alone tid }
 {
     let key = u64::from(tid.0);
-    while let Some(other) = first_other(threads, key) {
-        threads.remove(other);
-    }
+    threads.keep_only(key);
     threads.replace(key, Doing::Runs);
 }
 
-// What the threads of a process do after a call of one of them, and what came of it. A thread that was made has its place.
-pub(crate) fn take_acted(threads: &mut NumMap<Doing>, tid: Tid, yields: bool, acted: Acted) -> Did
-    requires { HasPlaceFor tid acted threads.old }
-    ensures threads { threads.new ≡ threads_after_act threads.old tid acted }
-    ensures did { result ≡ did_after_act yields acted }
+// Has the threads of a process do what they do after this came of what thread `tid` asked for. It takes no memory.
+fn take_came(threads: &mut NumMap<Doing>, tid: Tid, came: &Came<After>)
+    requires { HasPlaceFor tid threads.old came.now }
+    ensures { threads.new ≡ threads_after threads.old tid came.now }
 {
-    match acted {
-        Acted::Runs if yields => Did::Yields,
-        Acted::Runs => Did::Runs,
-        Acted::Starts(new) => {
-            threads.replace(u64::from(new.0), Doing::Runs);
-            Did::Started(new)
+    let key = u64::from(tid.0);
+    match came {
+        Came::Done(After::Runs) => {
+            threads.replace(key, Doing::Runs);
         }
-        Acted::Parks => {
-            threads.replace(u64::from(tid.0), Doing::Waits);
-            Did::Parks
+        Came::Done(After::Waits) => {
+            threads.replace(key, Doing::Waits);
         }
-        Acted::Leaves => {
-            threads.remove(u64::from(tid.0));
-            Did::ThreadGone
+        Came::Done(After::Leaves) => {
+            threads.remove(key);
         }
-        Acted::Begins => {
-            keep_only(threads, tid);
-            Did::Begun
-        }
-        Acted::Ends | Acted::Gone => Did::ProcessGone,
-        Acted::Lost | Acted::NoMemory => Did::NoMemory,
+        Came::Done(After::Begins) => keep_only(threads, tid),
+        _ => {}
     }
 }
 
-// The same after the wake of a thread. One that goes on gives way, since others may be to be looked at once it has read or written. One that
-// has left its condition variable waits on, for the lock.
-pub(crate) fn take_woken(threads: &mut NumMap<Doing>, tid: Tid, woken: Woken) -> Did
-    requires { IsSome (map.get threads.old tid) }
-    ensures threads { threads.new ≡ threads_after_wake threads.old tid woken }
-    ensures did { result ≡ did_after_wake woken }
+// The same, and the phase in which the process is then.
+pub(crate) fn settle(threads: &mut NumMap<Doing>, tid: Tid, came: &Came<After>) -> Phase
+    requires { HasPlaceFor tid threads.old came.now }
+    ensures threads { threads.new ≡ threads_after threads.old tid came.now }
+    ensures phase { result ≡ phase_after came.now }
 {
-    match woken {
-        Woken::Runs => {
-            threads.replace(u64::from(tid.0), Doing::Runs);
-            Did::Yields
-        }
-        Woken::Parks => Did::Parks,
-        Woken::NotReady => Did::NotReady,
-        Woken::Ends | Woken::Gone => Did::ProcessGone,
-        Woken::NoMemory => Did::NoMemory,
-    }
+    take_came(threads, tid, came);
+    phase_after(came)
 }
 
-// What came of a proc_fork. A thread that made a child gives way.
-pub(crate) fn did_after_fork<J: Naming>(forked: &Result<Option<(Pass<J>, Guest)>, NotMade>) -> Did
-    ensures { result ≡ did_after_fork forked.now }
+// What became of the thread that made a proc_fork of which this came.
+pub(crate) fn going_on<J: Naming>(forked: &Came<Option<(Pass<J>, Guest)>>) -> Came<After>
+    ensures { result ≡ going_on forked.now }
 {
     match forked {
-        Ok(Some(_)) => Did::Yields,
-        Ok(None) => Did::Runs,
-        Err(NotMade::Gone) => Did::ProcessGone,
-        Err(NotMade::NoMemory) => Did::NoMemory,
+        Came::Done(_) => Came::Done(After::Runs),
+        Came::NotReady => Came::NotReady,
+        Came::Gone => Came::Gone,
+        Came::NoMemory => Came::NoMemory,
     }
 }
 
-// What came of an end from outside.
-pub(crate) fn did_after_end(stopped: Stopped) -> Did
-    ensures { result ≡ did_after_end stopped }
+// The pass and the guest of the child that it made, if it made one.
+pub(crate) fn born<J: Naming>(forked: Came<Option<(Pass<J>, Guest)>>) -> Option<(Pass<J>, Guest)>
+    ensures { result ≡ born forked }
 {
-    match stopped {
-        Stopped::Done | Stopped::Gone => Did::ProcessGone,
-        Stopped::NoMemory => Did::NoMemory,
+    match forked {
+        Came::Done(child) => child,
+        Came::NotReady => None,
+        Came::Gone => None,
+        Came::NoMemory => None,
     }
 }

@@ -2,9 +2,8 @@
 ghost use Rattle.std.specs.Prelude.{◌≡◌};
 
 use crate::process::Process;
-use crate::results::Did;
 use abi_types::{Pid, Tid};
-use kernel_cell::{Idled, Naming, Times};
+use kernel_cell::{After, Came, Idled, Naming, Times};
 use kernel_core::Wakes;
 use std::alloc::{AllocError, Global};
 use std::sync::{Arc, Mutex};
@@ -59,10 +58,15 @@ impl<J: Naming> ThreadTicket<J> {
 /// What a worker did.
 #[derive(Drop)]
 pub enum Done<J: Naming> {
-    /// Steps of a thread, which came to this, and the ticket of the child that the last one made, if it made one; and the run's moment
-    /// then, until when the thread waits, whom else to look at again, and whether its process is live.
-    Ran(ThreadTicket<J>, Did, Option<ThreadTicket<J>>, Times),
-    /// It asked the kernel to let time go on, which came to this; and the run's moment then.
+    /// Steps of a thread, of the last of which this came, and the ticket of the child that it made, if it made one; and what the kernel told
+    /// at last, if it was asked.
+    Ran(
+        ThreadTicket<J>,
+        Came<After>,
+        Option<ThreadTicket<J>>,
+        Option<Times>,
+    ),
+    /// It asked the kernel to let time go on, of which this came; and the run's moment then.
     Idled(Idled, u64),
 }
 
@@ -70,13 +74,27 @@ impl<J: Naming> Done<J> {
     /// Tells the board.
     pub fn tell(self, board: &mut Board<ThreadTicket<J>>) {
         match self {
-            Done::Ran(ticket, did, child, times) => {
-                tell_wakes(&times.wakes, board);
-                let back = back(did, times.until, times.live);
-                board.take_back(ticket, back, child, times.moment);
+            Done::Ran(ticket, came, child, times) => {
+                let (until, moment) = tell_times(&times, board);
+                board.take_back(ticket, back(&came, until), child, moment);
             }
             Done::Idled(idled, moment) => board.take_passed(passed(idled, moment)),
         }
+    }
+}
+
+// Tells the board whom to look at again. Until when the thread waits, and the moment: where the kernel told none, no thread's deadline has come
+// since the last one.
+fn tell_times<J: Naming>(
+    times: &Option<Times>,
+    board: &mut Board<ThreadTicket<J>>,
+) -> (Option<u64>, u64) {
+    match times {
+        Some(times) => {
+            tell_wakes(&times.wakes, board);
+            (times.until, times.moment)
+        }
+        None => (None, 0),
     }
 }
 
@@ -90,16 +108,14 @@ fn tell_wakes<J: Naming>(wakes: &Wakes, board: &mut Board<ThreadTicket<J>>) {
     }
 }
 
-// How the ticket comes back of a thread whose last step came to this, which waits until this moment if it waits. It is over with a thread
-// whose process has ended, also where others ended it meanwhile.
-fn back(did: Did, until: Option<u64>, live: bool) -> Back {
-    match did {
-        Did::NoMemory => Back::NoMemory,
-        Did::ThreadGone | Did::ProcessGone => Back::Leaves,
-        _ if !live => Back::Leaves,
-        Did::Runs | Did::Yields | Did::Forks | Did::Begun => Back::Runs,
-        Did::Started(tid) => Back::Started(tid),
-        Did::Parks | Did::NotReady => Back::Waits(until),
+// How the ticket comes back of a thread of whose last step this came, which waits until this moment if it waits.
+fn back(came: &Came<After>, until: Option<u64>) -> Back {
+    match came {
+        Came::NoMemory | Came::Done(After::Lost) => Back::NoMemory,
+        Came::Gone | Came::Done(After::Leaves) | Came::Done(After::Ended) => Back::Leaves,
+        Came::Done(After::Runs) | Came::Done(After::Begins) => Back::Runs,
+        Came::Done(After::Starts(tid)) => Back::Started(*tid),
+        Came::NotReady | Came::Done(After::Waits) => Back::Waits(until),
     }
 }
 

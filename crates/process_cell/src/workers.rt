@@ -4,8 +4,10 @@ use crate::gate::Gate;
 use crate::process::Process;
 use crate::results::{Did, Phase};
 use crate::tickets::{Done, ThreadTicket};
+use crate::worker::Worker;
+use abi_types::Tid;
 use guest_process::FIRST_THREAD;
-use kernel_cell::{Cell, Naming};
+use kernel_cell::{After, Came, Cell, Naming, Times};
 use std::alloc::Global;
 use std::sync::{Condvar, Mutex, Wait};
 use std::thread;
@@ -44,76 +46,82 @@ impl<J: Naming> Workplace<J> {
     }
 }
 
-// Makes the proc_fork at which a process's thread stands, and the ticket of the child, if there is one. Where memory runs out for the ticket
-// the child is lost, and with it the run.
-fn fork<J: Naming, R: Wait, G: Gate>(
-    rt: &R,
-    alloc: Global,
-    cell: &Cell<J>,
-    process: &mut Process<J>,
-    gate: &G,
-    worker: u32,
-) -> (Did, Option<ThreadTicket<J>>) {
-    let Phase::Forks(tid) = process.phase() else {
-        return (Did::Forks, None);
-    };
-    let (did, child) = process.fork(rt, alloc, cell, gate, worker, tid);
-    let Some(child) = child else {
-        return (did, None);
-    };
-    match ThreadTicket::new(alloc, child, tid) {
-        Ok(ticket) => (did, Some(ticket)),
-        Err(_) => (Did::NoMemory, None),
-    }
+// What came of steps of a thread, with the ticket of the child that the last one made, and what the kernel told at last.
+#[derive(Drop)]
+struct Ran<J: Naming> {
+    came: Came<After>,
+    child: Option<ThreadTicket<J>>,
+    times: Option<Times>,
 }
 
-// Steps of a ticket's thread, under the memory lock of its process, until it gives way to others or can't go on; and the ticket of the child
-// that the last step made, if it made one.
-fn run_ticket<J: Naming, R: Wait, G: Gate>(
-    rt: &R,
-    alloc: Global,
-    cell: &Cell<J>,
-    ticket: &ThreadTicket<J>,
-    gate: &G,
-    worker: u32,
-) -> (Did, Option<ThreadTicket<J>>) {
-    let mut process = ticket.process.lock(rt);
-    for _ in 0..STEPS {
-        let (did, child) = match process.step(rt, alloc, cell, gate, worker, ticket.tid()) {
-            Did::Forks => fork(rt, alloc, cell, &mut process, gate, worker),
-            did => (did, None),
+impl<J: Naming, R: Wait, G: Gate> Worker<'_, J, R, G> {
+    // The next step of a process's thread; where it stands at a proc_fork then, that too, with the ticket of the child, if there is one. Where
+    // memory runs out for the ticket the child is lost, and with it the run.
+    fn step(&self, process: &mut Process<J>, tid: Tid) -> (Did, Option<ThreadTicket<J>>) {
+        let did = process.step(self, tid);
+        let Phase::Forks(forker) = process.phase() else {
+            return (did, None);
         };
-        match did {
-            Did::Runs => {}
-            did => return (did, child),
+        let (did, child) = process.fork(self, forker);
+        let Some(child) = child else {
+            return (did, None);
+        };
+        match ThreadTicket::new(self.alloc, child, forker) {
+            Ok(ticket) => (did, Some(ticket)),
+            Err(_) => (Did::unasked(Came::NoMemory), None),
         }
     }
-    (Did::Runs, None)
-}
 
-// The work of one worker, until there is nothing more to do.
-fn work<J: Naming, R: Wait, G: Gate>(
-    rt: &R,
-    alloc: Global,
-    cell: &Cell<J>,
-    workplace: &Workplace<J>,
-    gate: &G,
-    worker: u32,
-) {
-    let mut done = None;
-    for _ in rt.forever() {
-        done = match workplace.next(rt, done) {
-            Task::Run(ticket) => {
-                let (did, child) = run_ticket(rt, alloc, cell, &ticket, gate, worker);
-                let times = cell.times(rt, ticket.pid(), ticket.tid());
-                Some(Done::Ran(ticket, did, child, times))
+    // Steps of a ticket's thread, under the memory lock of its process, until it gives way to others or can't go on. Where the kernel wasn't
+    // asked in any of them, it is asked whether others have ended the process.
+    fn run(&self, ticket: &ThreadTicket<J>) -> Ran<J> {
+        let mut process = ticket.process.lock(self.rt);
+        let mut last = None;
+        for _ in 0..STEPS {
+            let (did, child) = self.step(&mut process, ticket.tid());
+            let goes_on = did.goes_on();
+            let Did { came, times, .. } = did;
+            if times.is_some() {
+                last = times;
             }
-            Task::Idle => {
-                let idled = cell.idle(rt, alloc);
-                Some(Done::Idled(idled, cell.moment(rt)))
+            if !goes_on {
+                return Ran {
+                    came,
+                    child,
+                    times: last,
+                };
             }
-            Task::Leave => return,
+        }
+        if last.is_none() {
+            process.look(self);
+        }
+        let came = match process.phase() {
+            Phase::Gone => Came::Gone,
+            _ => Came::Done(After::Runs),
         };
+        Ran {
+            came,
+            child: None,
+            times: last,
+        }
+    }
+
+    // The work of a worker, until there is nothing more to do.
+    fn work(&self, workplace: &Workplace<J>) {
+        let mut done = None;
+        for _ in self.rt.forever() {
+            done = match workplace.next(self.rt, done) {
+                Task::Run(ticket) => {
+                    let ran = self.run(&ticket);
+                    Some(Done::Ran(ticket, ran.came, ran.child, ran.times))
+                }
+                Task::Idle => {
+                    let (idled, moment) = self.cell.idle(self.rt);
+                    Some(Done::Idled(idled, moment))
+                }
+                Task::Leave => return,
+            };
+        }
     }
 }
 
@@ -140,14 +148,28 @@ pub fn run_process<J: Naming + Send + Sync, R: Threads + Wait + Sync, G: Gate + 
     };
     let shared = &workplace;
     thread::scope(thread::scope_env(), rt, |scope| {
-        for worker in 1..workers {
-            if scope
-                .spawn(move || work(rt, alloc, cell, shared, gate, worker))
-                .is_err()
-            {
+        for number in 1..workers {
+            let spawned = scope.spawn(move || {
+                let worker = Worker {
+                    rt,
+                    alloc,
+                    cell,
+                    gate,
+                    number,
+                };
+                worker.work(shared)
+            });
+            if spawned.is_err() {
                 break;
             }
         }
-        work(rt, alloc, cell, shared, gate, 0);
+        let first = Worker {
+            rt,
+            alloc,
+            cell,
+            gate,
+            number: 0,
+        };
+        first.work(shared);
     });
 }

@@ -1,54 +1,34 @@
-use Rattle.std.proofs.Common.{sym, ap, subst, ◌∙◌}
-use Rattle.shared_history.specs.Passes.{seen_of}
-use Rattle.kernel_cell.specs.Acting.{IsStoppedOn}
-use Rattle.kernel_cell.specs.Recorded.{IsRecorded}
-use Rattle.kernel_cell.proofs.PassOutcomes.{later_of, asks_end_now, stopped_is_seen, pass_after_end, on_same}
+use Rattle.std.proofs.Common.{[], ◌∷◌, ◌++◌, refl, sym, ap, subst, ◌∙◌}
+use Rattle.run_types.specs.declared.history.Entry.{Entry}
+use Rattle.run_model.specs.Legal.{Fits}
+use Rattle.run_model.specs.World.{world}
+use Rattle.shared_history.specs.Kept.{Takes}
+use Rattle.kernel_cell.proofs.RecordedSteps.{kernel_early, log_short, end_fits, end_recorded, end_came}
 use Rattle.kernel_cell.proofs.locked.Locked.end.Goals as goal
 
-pub end-stopped-requires-clause-recorded : goal.end-stopped-requires-clause-recorded
-end-stopped-requires-clause-recorded g c =
-    let it = c.self.inside.recorded in
-    subst (λ h. IsRecorded g.J.Naming.launch g.J.Naming.keeps_all h it.kernel it.constants it.kept) (sym (ap (λ k. k.log) c.take_in.ensures.keeper))
-    c.self.invariant
+pub end-requires-clause-early : goal.end-requires-clause-early
+end-requires-clause-early g c = kernel_early c.requires.recorded
 
-pub end-stopped-requires-clause-asks : goal.end-stopped-requires-clause-asks
-end-stopped-requires-clause-asks g c =
-    let pass = c.pass.inside in
-    let log = c.self.inside.recorded.keeper.log in
-    asks_end_now g.J.Naming.launch c.self.invariant.bounded.begins pass.pid c.args.tid (seen_of pass.badge.views) c.args.turns log c.take_in.new.self.log (ap (λ k. k.log) c.take_in.ensures.keeper)
-    c.pass.invariant.seen c.self.invariant.legal (later_of c.lent.result pass.pid (seen_of pass.badge.views) log c.lent.ensures c.take_in.ensures.later)
-    c.args.pass.now c.args.how c.pass.view_is c.requires
+pub append-requires-clause-fits : goal.append-requires-clause-fits
+append-requires-clause-fits g c =
+    subst (Fits (world g.J.Naming.launch c.args.self.now.keeper.log)) (sym c.with-entry.ensures)
+    (end_fits c.requires.recorded c.args.pid c.args.tid c.args.turns.now c.args.how c.status_of.result c.status_of.ensures c.act_of.result c.act_of.ensures
+    c.end.new.self c.end.ensures.end c.head.result c.head.ensures.head c.requires.live c.requires.asks)
 
-pub hand_out-requires-clause-seen : goal.hand_out-requires-clause-seen
-hand_out-requires-clause-seen g c =
-    let pass = c.pass.inside in
-    let log = c.self.inside.recorded.keeper.log in
-    stopped_is_seen g.J.Naming.launch c.self.invariant.bounded.begins pass.pid c.args.tid (seen_of pass.badge.views) c.args.turns log c.take_in.new.self.log (ap (λ k. k.log) c.take_in.ensures.keeper)
-    c.pass.invariant.seen c.self.invariant.legal (later_of c.lent.result pass.pid (seen_of pass.badge.views) log c.lent.ensures c.take_in.ensures.later)
-    c.args.how c.end-stopped.new.self.keeper.log c.end-stopped.result c.end-stopped.ensures.stopped
+pub append-requires-clause-room : goal.append-requires-clause-room
+append-requires-clause-room g c = log_short c.requires.recorded
 
-pub invariant_of-self : goal.invariant_of-self
-invariant_of-self g c =
-    let it = c.end-stopped.new.self in
-    subst (λ h. IsRecorded g.J.Naming.launch g.J.Naming.keeps_all h it.kernel it.constants it.kept) (sym (ap (λ k. k.log) c.hand_out.ensures.keeper))
-    c.end-stopped.ensures.recorded
+pub returns-clause-recorded : goal.returns-clause-recorded
+returns-clause-recorded g c =
+    let self = c.args.self.now in
+    end_recorded c.requires.recorded c.args.pid c.args.tid c.args.turns.now c.args.how c.status_of.result c.status_of.ensures c.act_of.result c.act_of.ensures
+    c.end.new.self c.end.ensures.end c.head.result c.head.ensures.head c.requires.live c.requires.asks
+    c.append.new.self.log (ap (λ k. k.log) c.append.ensures ∙ ap (λ (e : Entry). self.keeper.log ++ e ∷ []) c.with-entry.ensures) c.take.new.self
+    (subst (λ (e : Entry). Takes e self.kept c.take.new.self) c.with-entry.ensures
+    (record { all_is = c.take.ensures.all; entries_are = c.take.ensures.entries; denied_are = c.take.ensures.denied }))
 
-pub returns-clause-pass : goal.returns-clause-pass
-returns-clause-pass g c =
-    let pass = c.pass.inside in
-    let log = c.self.inside.recorded.keeper.log in
-    pass_after_end g.J.Naming.launch c.self.invariant.bounded.begins pass.pid c.args.tid (seen_of pass.badge.views) c.args.turns log c.take_in.new.self.log (ap (λ k. k.log) c.take_in.ensures.keeper)
-    c.pass.invariant.seen c.self.invariant.legal (later_of c.lent.result pass.pid (seen_of pass.badge.views) log c.lent.ensures c.take_in.ensures.later)
-    c.args.how c.end-stopped.new.self.keeper.log c.end-stopped.result c.end-stopped.ensures.stopped
-    c.args.pass.now (record { pid = c.drop.inside.pid; seen = seen_of c.drop.inside.badge.views })
-    c.pass.view_is (c.drop.view_is ∙ c.hand_out.ensures.pass)
-
-pub returns-clause-history : goal.returns-clause-history
-returns-clause-history g c =
-    on_same (λ log p after. IsStoppedOn g.J.Naming.launch log p c.args.tid c.args.turns c.args.how after c.end-stopped.result)
-    c.take_in.new.self.log c.args.self.now c.end-stopped.new.self.keeper.log c.hand_out.new.self.log c.pass.inside.pid c.args.pass.now.pid
-    (ap (λ k. k.log) c.take_in.ensures.keeper ∙ c.self.view_is) (ap (λ v. v.pid) c.pass.view_is) (sym (ap (λ k. k.log) c.hand_out.ensures.keeper))
-    c.end-stopped.ensures.stopped
-
-pub returns-clause-seen : goal.returns-clause-seen
-returns-clause-seen g c = ap (λ v. v.seen) (c.drop.view_is ∙ c.hand_out.ensures.pass) ∙ sym (ap (λ k. k.log) c.hand_out.ensures.keeper)
+pub returns-clause-ended : goal.returns-clause-ended
+returns-clause-ended g c =
+    end_came c.requires.recorded c.args.pid c.args.tid c.args.turns.now c.args.how c.status_of.result c.status_of.ensures c.act_of.result c.act_of.ensures
+    c.end.new.self c.end.ensures.end c.head.result c.head.ensures.head c.requires.live c.requires.asks
+    c.append.new.self.log (ap (λ k. k.log) c.append.ensures ∙ ap (λ (e : Entry). c.args.self.now.keeper.log ++ e ∷ []) c.with-entry.ensures)

@@ -1,54 +1,55 @@
-use Rattle.std.proofs.Common.{sym, ap, subst, ◌∙◌}
-use Rattle.shared_history.specs.Passes.{seen_of}
-use Rattle.kernel_cell.specs.Acting.{IsWokenOn}
-use Rattle.kernel_cell.specs.Recorded.{IsRecorded}
-use Rattle.kernel_cell.proofs.PassOutcomes.{later_of, asks_wake_now, woken_is_seen, pass_after_wake, on_same}
+use Rattle.std.proofs.Common.{◌≡◌, ◌∙◌, ℕ, ◌<◌, List, length, slice_index_or, refl, sym, ap, subst, arith}
+use Rattle.shared_history.specs.declared.entries.EntryHead.{EntryHead}
+use Rattle.kernel_cell.proofs.RecordedSteps.{kernel_early, log_short, constants_early, covers, wake_can, wake_few, same_given, wake_fits, wake_recorded, wake_came, wake_none, wake_not}
 use Rattle.kernel_cell.proofs.locked.Locked.wake.Goals as goal
 
-pub wake-woken-requires-clause-recorded : goal.wake-woken-requires-clause-recorded
-wake-woken-requires-clause-recorded g c =
-    let it = c.self.inside.recorded in
-    subst (λ h. IsRecorded g.J.Naming.launch g.J.Naming.keeps_all h it.kernel it.constants it.kept) (sym (ap (λ k. k.log) c.take_in.ensures.keeper))
-    c.self.invariant
+pub given-given-requires : goal.given-given-requires
+given-given-requires g c = record { thread = c.requires.asks.registers }
 
-pub wake-woken-requires-clause-asks : goal.wake-woken-requires-clause-asks
-wake-woken-requires-clause-asks g c =
-    let pass = c.pass.inside in
-    let log = c.self.inside.recorded.keeper.log in
-    asks_wake_now g.J.Naming.launch c.self.invariant.bounded.begins pass.pid c.args.tid (seen_of pass.badge.views) c.args.turns.now log c.take_in.new.self.log (ap (λ k. k.log) c.take_in.ensures.keeper)
-    c.pass.invariant.seen c.self.invariant.legal (later_of c.lent.result pass.pid (seen_of pass.badge.views) log c.lent.ensures c.take_in.ensures.later)
-    c.args.pass.now c.args.guest.now c.pass.view_is c.requires
+pub wake-requires-clause-early : goal.wake-requires-clause-early
+wake-requires-clause-early g c = kernel_early c.requires.recorded
 
-pub hand_out-requires-clause-seen : goal.hand_out-requires-clause-seen
-hand_out-requires-clause-seen g c =
-    let pass = c.pass.inside in
-    let log = c.self.inside.recorded.keeper.log in
-    woken_is_seen g.J.Naming.launch c.self.invariant.bounded.begins pass.pid c.args.tid (seen_of pass.badge.views) c.args.turns.now log c.take_in.new.self.log (ap (λ k. k.log) c.take_in.ensures.keeper)
-    c.pass.invariant.seen c.self.invariant.legal (later_of c.lent.result pass.pid (seen_of pass.badge.views) log c.lent.ensures c.take_in.ensures.later)
-    c.wake-woken.new.guest c.wake-woken.new.self.keeper.log c.wake-woken.result c.wake-woken.ensures.woken
+pub wake-requires-clause-epoch : goal.wake-requires-clause-epoch
+wake-requires-clause-epoch g c = constants_early c.requires.recorded
 
-pub invariant_of-self : goal.invariant_of-self
-invariant_of-self g c =
-    let it = c.wake-woken.new.self in
-    subst (λ h. IsRecorded g.J.Naming.launch g.J.Naming.keeps_all h it.kernel it.constants it.kept) (sym (ap (λ k. k.log) c.hand_out.ensures.keeper))
-    c.wake-woken.ensures.recorded
+pub answer_woken-requires-clause-thread : goal.answer_woken-requires-clause-thread
+answer_woken-requires-clause-thread g c = c.requires.asks.registers
 
-pub returns-clause-pass : goal.returns-clause-pass
-returns-clause-pass g c =
-    let pass = c.pass.inside in
-    let log = c.self.inside.recorded.keeper.log in
-    pass_after_wake g.J.Naming.launch c.self.invariant.bounded.begins pass.pid c.args.tid (seen_of pass.badge.views) c.args.turns.now log c.take_in.new.self.log (ap (λ k. k.log) c.take_in.ensures.keeper)
-    c.pass.invariant.seen c.self.invariant.legal (later_of c.lent.result pass.pid (seen_of pass.badge.views) log c.lent.ensures c.take_in.ensures.later)
-    c.wake-woken.new.guest c.wake-woken.new.self.keeper.log c.wake-woken.result c.wake-woken.ensures.woken
-    c.args.pass.now (record { pid = c.drop.inside.pid; seen = seen_of c.drop.inside.badge.views })
-    c.pass.view_is (c.drop.view_is ∙ c.hand_out.ensures.pass)
+pub answer_woken-requires-clause-waits : goal.answer_woken-requires-clause-waits
+answer_woken-requires-clause-waits g c = wake_can c.requires.recorded c.requires.asks c.in-Some-wake.call c.in-Some-wake.ensures.kept
 
-pub returns-clause-history : goal.returns-clause-history
-returns-clause-history g c =
-    on_same (λ log p after. IsWokenOn g.J.Naming.launch log p c.args.tid c.args.turns.now c.wake-woken.new.guest after c.wake-woken.result)
-    c.take_in.new.self.log c.args.self.now c.wake-woken.new.self.keeper.log c.hand_out.new.self.log c.pass.inside.pid c.args.pass.now.pid
-    (ap (λ k. k.log) c.take_in.ensures.keeper ∙ c.self.view_is) (ap (λ v. v.pid) c.pass.view_is) (sym (ap (λ k. k.log) c.hand_out.ensures.keeper))
-    c.wake-woken.ensures.woken
+pub answer_woken-requires-clause-few : goal.answer_woken-requires-clause-few
+answer_woken-requires-clause-few g c = wake_few c.requires.recorded c.requires.asks c.in-Some-wake.call c.in-Some-wake.ensures.kept
 
-pub returns-clause-seen : goal.returns-clause-seen
-returns-clause-seen g c = ap (λ v. v.seen) (c.drop.view_is ∙ c.hand_out.ensures.pass) ∙ sym (ap (λ k. k.log) c.hand_out.ensures.keeper)
+pub append_call-requires-clause-covers : goal.append_call-requires-clause-covers
+append_call-requires-clause-covers g c =
+    covers c.args.self.now.keeper.held c.args.pid c.head-head.result.pid c.requires.held (ap (λ (h : EntryHead). h.pid) c.head-head.ensures.head)
+
+pub append_call-requires-clause-fits : goal.append_call-requires-clause-fits
+append_call-requires-clause-fits g c =
+    let given_is = same_given c.args.body.now.guest c.args.tid c.in-Some.kept.now c.in-Some-wake.call _ c.given-given.result c.in-Some.ensures
+    c.in-Some-wake.ensures.kept c.given-given.ensures in
+    wake_fits c.requires.recorded c.requires.asks c.in-Some-wake.call c.in-Some-wake.ensures.kept c.given-given.result given_is c.in-Some-wake.answer
+    c.wake.new.self c.head-head.result c.head-head.ensures.head c.in-Some-wake.ensures.ready c.in-Some-wake.ensures.woken c.requires.live
+
+pub append_call-requires-clause-room : goal.append_call-requires-clause-room
+append_call-requires-clause-room g c = log_short c.requires.recorded
+
+pub returns-clause-recorded : goal.returns-clause-recorded
+returns-clause-recorded g c =
+    let given_is = same_given c.args.body.now.guest c.args.tid c.in-Some.kept.now c.in-Some-wake.call _ c.given-given.result c.in-Some.ensures
+    c.in-Some-wake.ensures.kept c.given-given.ensures in
+    wake_recorded c.requires.recorded c.requires.asks c.in-Some-wake.call c.in-Some-wake.ensures.kept c.given-given.result given_is c.in-Some-wake.answer
+    c.wake.new.self c.head-head.result c.head-head.ensures.head c.in-Some-wake.ensures.ready c.in-Some-wake.ensures.woken c.requires.live
+    c.append_call.new.self.log (ap (λ k. k.log) c.append_call.ensures) c.take_call.new.self
+    (record { all_is = c.take_call.ensures.all; entries_are = c.take_call.ensures.entries; denied_are = c.take_call.ensures.denied })
+
+pub returns-clause-came : goal.returns-clause-came
+returns-clause-came g c =
+    let given_is = same_given c.args.body.now.guest c.args.tid c.in-Some.kept.now c.in-Some-wake.call _ c.given-given.result c.in-Some.ensures
+    c.in-Some-wake.ensures.kept c.given-given.ensures in
+    wake_came c.requires.recorded c.requires.asks c.in-Some-wake.call c.in-Some-wake.ensures.kept c.given-given.result given_is c.in-Some-wake.answer
+    c.wake.new.self c.head-head.result c.head-head.ensures.head c.in-Some-wake.ensures.ready c.in-Some-wake.ensures.woken c.requires.live
+    c.append_call.new.self.log (ap (λ k. k.log) c.append_call.ensures) c.answer_woken.new.self c.answer_woken.ensures
+    c.if_live.result c.after_wake-after.result c.live.result c.args.body.now.threads c.head-head.new.turns c.if_live.ensures c.after_wake-after.ensures
+    c.live.ensures c.head-head.ensures.none

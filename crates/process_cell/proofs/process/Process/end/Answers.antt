@@ -1,29 +1,50 @@
-use Rattle.std.proofs.Common.{ℕ, List, sym, subst, ◌∙◌}
-use Rattle.kernel_cell.specs.Acting.{AsksEnd}
-use Rattle.run_model.specs.World.{world}
-use Rattle.process_cell.proofs.Outcomes.{end_tells}
-use Rattle.process_cell.proofs.Ties.{asks_end, tied_end}
+use Rattle.std.proofs.Common.{IsSome, refl, sym, ap, subst, ◌∙◌}
+use Rattle.run_model.specs.World.{Guest}
+use Rattle.kernel_cell.specs.declared.results.After.{After}
+use Rattle.kernel_cell.specs.declared.results.Asked.TheVariants as asked
+use Rattle.kernel_cell.specs.declared.results.Came.{Came}
+use Rattle.process_cell.specs.Process.{standing_of}
+use Rattle.process_cell.specs.Standing.{Standing}
+use Rattle.process_cell.specs.Steps.{IsAsked}
+use Rattle.process_cell.proofs.Outcomes.{asked_tells, plain_end}
+use Rattle.process_cell.proofs.Ties.{asks_end, due_runs, due_stands, has_place, tied_came}
 use Rattle.process_cell.proofs.process.Process.end.Goals as goal
 
-pub end-stopped-requires : goal.end-stopped-requires
-end-stopped-requires g c =
+pub end-came-requires : goal.end-came-requires
+end-came-requires g c =
     let v = c.self.inside in
-    subst (λ (ts : List ℕ). AsksEnd (world g.J.Naming.launch v.pass.seen) v.pass.pid c.args.tid ts c.args.how) (sym c.replace-turns.ensures.value)
-    (asks_end g.J.Naming.launch v.pass c.args.tid v.threads v.turns v.guest v.phase c.args.self.now c.self.invariant.1 c.self.view_is c.args.how c.requires)
+    asks_end g.J.Naming.launch v.pass c.args.tid v.body v.phase c.args.self.now c.self.invariant.1 c.self.view_is c.args.how c.requires
+
+pub settle-self-inside-requires : goal.settle-self-inside-requires
+settle-self-inside-requires g c =
+    let v = c.self.inside in
+    let stands = due_stands g.J.Naming.launch v.pass c.args.tid v.body v.phase c.args.self.now c.self.invariant.1 c.self.view_is c.args.how c.requires in
+    let runs = due_runs g.J.Naming.launch v.pass c.args.tid v.body v.phase c.args.self.now c.self.invariant.1 c.self.view_is c.args.how c.requires in
+    has_place g.J.Naming.launch c.self.invariant.0 v.pass c.end-came.new.pass c.args.tid v.body c.end-came.new.body stands (asked.Ends c.args.how)
+    c.end-came.result.0 c.end-came.ensures.ended (subst IsSome (sym runs) refl)
 
 pub invariant_of-self : goal.invariant_of-self
 invariant_of-self g c =
-    let v = c.self.inside in (
+    let v = c.self.inside in
+    let stands = due_stands g.J.Naming.launch v.pass c.args.tid v.body v.phase c.args.self.now c.self.invariant.1 c.self.view_is c.args.how c.requires in (
       c.self.invariant.0,
-      tied_end g.J.Naming.launch v.pass c.end-stopped.new.pass c.args.tid v.threads c.replace-turns.result c.replace-turns.new.dest c.args.how v.guest
-          c.phase_after-self-inside.result c.end-stopped.result c.did_after_end-did.result c.end-stopped.ensures c.did_after_end-did.ensures
-          c.phase_after-self-inside.ensures,
+      tied_came g.J.Naming.launch c.self.invariant.0 v.pass c.end-came.new.pass c.args.tid v.body c.end-came.new.body stands (asked.Ends c.args.how)
+          c.end-came.result.0 c.settle-self-inside.new.threads c.settle-self-inside.result c.end-came.ensures.ended tt
+          c.settle-self-inside.ensures.threads c.settle-self-inside.ensures.phase,
     )
+
+pub returns-clause-left : goal.returns-clause-left
+returns-clause-left g c =
+    ap (λ (guest : Guest). guest.left) c.end-came.ensures.ended.happens.unanswered ∙ ap (λ (s : Standing). s.left) c.self.view_is
 
 pub returns-clause-ended : goal.returns-clause-ended
 returns-clause-ended g c =
     let v = c.self.inside in
-    end_tells g.J.Naming.launch v.pass c.end-stopped.new.pass c.args.tid v.threads v.turns c.args.how v.guest v.phase c.replace-turns.result
-    c.replace-turns.new.dest c.phase_after-self-inside.result c.did_after_end-did.result c.end-stopped.result c.args.self.now
-    c.replace-turns.ensures.value c.end-stopped.ensures (c.replace-turns.ensures.after ∙ c.new.ensures) c.did_after_end-did.ensures
-    c.phase_after-self-inside.ensures c.self.view_is
+    let stands = due_stands g.J.Naming.launch v.pass c.args.tid v.body v.phase c.args.self.now c.self.invariant.1 c.self.view_is c.args.how c.requires in
+    let runs = due_runs g.J.Naming.launch v.pass c.args.tid v.body v.phase c.args.self.now c.self.invariant.1 c.self.view_is c.args.how c.requires in
+    subst (λ (result : Came After). IsAsked g.J.Naming.launch c.args.tid (asked.Ends c.args.how) c.args.self.now
+    (standing_of c.end-came.new.pass (record c.end-came.new.body { threads = c.settle-self-inside.new.threads }) c.settle-self-inside.result) result
+    c.answered.result.gives_way) (sym c.answered.ensures.came)
+    (asked_tells g.J.Naming.launch c.self.invariant.0 v.pass c.end-came.new.pass c.args.tid v.body c.end-came.new.body v.phase stands (asked.Ends c.args.how)
+    c.end-came.result.0 c.answered.result.gives_way c.settle-self-inside.new.threads c.settle-self-inside.result c.args.self.now runs (λ wakes. absurd wakes)
+    (plain_end c.args.how) tt c.end-came.ensures.ended c.settle-self-inside.ensures.threads c.settle-self-inside.ensures.phase c.self.view_is)

@@ -1,31 +1,46 @@
-use Rattle.process_cell.proofs.Outcomes.{finish_tells}
-use Rattle.process_cell.proofs.Ties.{asks_wake, does_wait, tied_wake}
+use Rattle.std.proofs.Common.{IsSome, refl, sym, subst}
+use Rattle.kernel_cell.specs.declared.results.After.{After}
+use Rattle.kernel_cell.specs.declared.results.Asked.TheVariants as asked
+use Rattle.kernel_cell.specs.declared.results.Came.{Came}
+use Rattle.kernel_cell.specs.declared.results.Doing.TheVariants as doing
+use Rattle.process_cell.specs.Process.{standing_of}
+use Rattle.process_cell.specs.Steps.{IsAsked}
+use Rattle.process_cell.proofs.Outcomes.{asked_tells, plain_wake}
+use Rattle.process_cell.proofs.Ties.{asks_wake, between, does, has_place, phase_is, tied_came}
 use Rattle.process_cell.proofs.process.Process.finish.Goals as goal
 
-pub wake-woken-requires : goal.wake-woken-requires
-wake-woken-requires g c =
+pub wake-came-requires : goal.wake-came-requires
+wake-came-requires g c =
     let v = c.self.inside in
-    asks_wake g.J.Naming.launch v.pass c.args.tid v.threads v.turns v.guest v.phase c.args.self.now c.self.invariant.1 c.self.view_is c.requires
+    asks_wake g.J.Naming.launch v.pass c.args.tid v.body v.phase c.args.self.now c.self.invariant.1 c.self.view_is c.requires
 
-pub take_woken-did-requires : goal.take_woken-did-requires
-take_woken-did-requires g c =
+pub settle-self-inside-requires : goal.settle-self-inside-requires
+settle-self-inside-requires g c =
     let v = c.self.inside in
-    does_wait g.J.Naming.launch v.pass c.args.tid v.threads v.turns v.guest v.phase c.args.self.now c.self.invariant.1 c.self.view_is c.requires
+    let tied = between g.J.Naming.launch v.pass c.args.tid v.body v.phase c.args.self.now c.self.invariant.1 c.self.view_is c.requires.0 in
+    let waits = does g.J.Naming.launch v.pass c.args.tid v.body v.phase c.args.self.now c.self.invariant.1 c.self.view_is doing.Waits c.requires.1 in
+    has_place g.J.Naming.launch c.self.invariant.0 v.pass c.wake-came.new.pass c.args.tid v.body c.wake-came.new.body tied.0 asked.Wakes c.wake-came.result.0
+    c.wake-came.ensures.woken (subst IsSome (sym waits) refl)
 
 pub invariant_of-self : goal.invariant_of-self
 invariant_of-self g c =
-    let v = c.self.inside in (
+    let v = c.self.inside in
+    let tied = between g.J.Naming.launch v.pass c.args.tid v.body v.phase c.args.self.now c.self.invariant.1 c.self.view_is c.requires.0 in (
       c.self.invariant.0,
-      tied_wake g.J.Naming.launch c.self.invariant.0 v.pass c.wake-woken.new.pass c.args.tid v.threads v.turns v.guest c.take_woken-did.new.threads v.phase
-          c.phase_after-self-inside.result c.wake-woken.new.guest c.wake-woken.new.turns c.wake-woken.result c.take_woken-did.result c.args.self.now
-          c.self.invariant.1 c.self.view_is c.requires c.wake-woken.ensures.pass c.wake-woken.ensures.turns c.take_woken-did.ensures.threads
-          c.take_woken-did.ensures.did c.phase_after-self-inside.ensures,
+      tied_came g.J.Naming.launch c.self.invariant.0 v.pass c.wake-came.new.pass c.args.tid v.body c.wake-came.new.body tied.0 asked.Wakes c.wake-came.result.0
+          c.settle-self-inside.new.threads c.settle-self-inside.result c.wake-came.ensures.woken tied.1 c.settle-self-inside.ensures.threads
+          c.settle-self-inside.ensures.phase,
     )
 
 pub returns-clause-finished : goal.returns-clause-finished
 returns-clause-finished g c =
     let v = c.self.inside in
-    finish_tells g.J.Naming.launch c.self.invariant.0 v.pass c.wake-woken.new.pass c.args.tid v.threads v.turns c.wake-woken.new.turns v.guest c.wake-woken.new.guest v.phase
-    c.take_woken-did.new.threads c.phase_after-self-inside.result c.take_woken-did.result c.wake-woken.result c.args.self.now c.self.invariant.1 c.requires
-    c.wake-woken.ensures.pass c.wake-woken.ensures.turns c.take_woken-did.ensures.threads c.take_woken-did.ensures.did
-    c.phase_after-self-inside.ensures c.self.view_is
+    let tied = between g.J.Naming.launch v.pass c.args.tid v.body v.phase c.args.self.now c.self.invariant.1 c.self.view_is c.requires.0 in
+    let waits = does g.J.Naming.launch v.pass c.args.tid v.body v.phase c.args.self.now c.self.invariant.1 c.self.view_is doing.Waits c.requires.1 in
+    subst (λ (result : Came After). IsAsked g.J.Naming.launch c.args.tid asked.Wakes c.args.self.now
+    (standing_of c.wake-came.new.pass (record c.wake-came.new.body { threads = c.settle-self-inside.new.threads }) c.settle-self-inside.result) result
+    c.answered.result.gives_way) (sym c.answered.ensures.came)
+    (asked_tells g.J.Naming.launch c.self.invariant.0 v.pass c.wake-came.new.pass c.args.tid v.body c.wake-came.new.body v.phase tied.0 asked.Wakes
+    c.wake-came.result.0 c.answered.result.gives_way c.settle-self-inside.new.threads c.settle-self-inside.result c.args.self.now waits
+    (λ _. phase_is g.J.Naming.launch v.pass c.args.tid v.body v.phase c.args.self.now c.self.invariant.1 c.self.view_is c.requires.0) plain_wake
+    (c.answered.ensures.gives refl) c.wake-came.ensures.woken c.settle-self-inside.ensures.threads c.settle-self-inside.ensures.phase c.self.view_is)

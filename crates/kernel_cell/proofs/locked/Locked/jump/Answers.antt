@@ -7,28 +7,26 @@ use Rattle.run_model.specs.World.{world}
 use Rattle.shared_history.specs.Kept.{Takes}
 use Rattle.shared_history.proofs.KeptEntries.{takes_reserved}
 use Rattle.kernel_cell.proofs.RecordedSteps.{kernel_early, log_short, fits_jump, recorded_jump, appends_jump, stalled_there, busy_there}
-use Rattle.kernel_cell.proofs.recorded.Recorded.idle.Goals as goal
+use Rattle.kernel_cell.proofs.locked.Locked.jump.Goals as goal
 
 pub idle-requires : goal.idle-requires
 idle-requires g c =
-    let self = c.args.self.now in
-    record { early = kernel_early g.J.Naming.launch g.J.Naming.keeps_all self.keeper.log self.kernel self.constants self.kept c.requires.recorded }
+    record { early = kernel_early c.requires.recorded }
 
 pub append-requires-clause-fits : goal.append-requires-clause-fits
 append-requires-clause-fits g c =
     let self = c.args.self.now in
     subst (Fits (world g.J.Naming.launch self.keeper.log)) (sym c.idle_entry-entry.ensures)
-    (fits_jump g.J.Naming.launch g.J.Naming.keeps_all self.keeper.log self.kernel self.constants self.kept c.requires.recorded c.idle.new.self (c.if-idle.ensures.jumps refl) (c.if-idle.ensures.exact.0 refl) c.moment.result c.moment.ensures)
+    (fits_jump c.requires.recorded c.idle.new.self (c.if-idle.ensures.jumps refl) (c.if-idle.ensures.exact.0 refl) c.moment.result c.moment.ensures)
 
 pub append-requires-clause-room : goal.append-requires-clause-room
 append-requires-clause-room g c =
-    let self = c.args.self.now in
-    log_short g.J.Naming.launch g.J.Naming.keeps_all self.keeper.log self.kernel self.constants self.kept c.requires.recorded
+    log_short c.requires.recorded
 
 pub returns-then-idle-clause-recorded : goal.returns-then-idle-clause-recorded
 returns-then-idle-clause-recorded g c =
     let self = c.args.self.now in
-    recorded_jump g.J.Naming.launch g.J.Naming.keeps_all self.keeper.log self.kernel self.constants self.kept c.requires.recorded c.idle.new.self (c.if-idle.ensures.jumps refl) (c.if-idle.ensures.exact.0 refl) c.moment.result c.moment.ensures
+    recorded_jump c.requires.recorded c.idle.new.self (c.if-idle.ensures.jumps refl) (c.if-idle.ensures.exact.0 refl) c.moment.result c.moment.ensures
     c.append.new.self.log (ap (λ k. k.log) c.append.ensures ∙ ap (λ (e : Entry). self.keeper.log ++ e ∷ []) c.idle_entry-entry.ensures) c.take.new.self
     (subst (λ (e : Entry). Takes e self.kept c.take.new.self) c.idle_entry-entry.ensures
     (takes_reserved _ self.kept c.reserve.new.self _ c.reserve.ensures.all c.reserve.ensures.entries c.reserve.ensures.denied
@@ -37,17 +35,17 @@ returns-then-idle-clause-recorded g c =
 pub returns-then-idle-clause-idled : goal.returns-then-idle-clause-idled
 returns-then-idle-clause-idled g c =
     let self = c.args.self.now in
-    appends_jump g.J.Naming.launch g.J.Naming.keeps_all self.keeper.log self.kernel self.constants self.kept c.requires.recorded c.idle.new.self (c.if-idle.ensures.jumps refl) (c.if-idle.ensures.exact.0 refl) c.moment.result c.moment.ensures
+    appends_jump c.requires.recorded c.idle.new.self (c.if-idle.ensures.jumps refl) (c.if-idle.ensures.exact.0 refl) c.moment.result c.moment.ensures
     c.append.new.self.log (ap (λ k. k.log) c.append.ensures ∙ ap (λ (e : Entry). self.keeper.log ++ e ∷ []) c.idle_entry-entry.ensures)
 
 pub returns-then-stalled-clause-idled : goal.returns-then-stalled-clause-idled
 returns-then-stalled-clause-idled g c =
     let self = c.args.self.now in
-    stalled_there g.J.Naming.launch g.J.Naming.keeps_all self.keeper.log self.kernel self.constants self.kept c.requires.recorded self.keeper.log refl
+    stalled_there c.requires.recorded self.keeper.log refl
     (subst (λ (S : State). IsStalled self.constants S) (c.if-idle.ensures.none refl) (c.if-stalled.ensures.0 refl))
 
 pub returns-else-stalled-clause-idled : goal.returns-else-stalled-clause-idled
 returns-else-stalled-clause-idled g c =
     let self = c.args.self.now in
-    busy_there g.J.Naming.launch g.J.Naming.keeps_all self.keeper.log self.kernel self.constants self.kept c.requires.recorded self.keeper.log refl (λ may. true≢false (sym (c.if-idle.ensures.exact.1 may)))
+    busy_there c.requires.recorded self.keeper.log refl (λ may. true≢false (sym (c.if-idle.ensures.exact.1 may)))
     (λ stalled. true≢false (sym (c.if-stalled.ensures.1 (subst (λ (S : State). IsStalled self.constants S) (sym (c.if-idle.ensures.none refl)) stalled))))

@@ -7,7 +7,7 @@ use Rattle.kernel_model.specs.State.{State}
 use Rattle.kernel_model.specs.Step.{IsStep}
 use Rattle.kernel_model.specs.Threads.{child_told}
 use Rattle.run_model.specs.World.{Guest}
-use Rattle.kernel_cell.proofs.recorded.child_guest.Goals as goal
+use Rattle.kernel_cell.proofs.afterwards.child_guest.Goals as goal
 
 pub returns-then-not-may_fork-clause-none : goal.returns-then-not-may_fork-clause-none
 returns-then-not-may_fork-clause-none c = λ none.

@@ -1,0 +1,136 @@
+//! What an answer leaves of a thread and of its process, and which child it tells.
+ghost use Rattle.std.specs.Prelude.{◌≡◌, ℕ, None, IfOk, IfSome, IsNone, IsSome, is_ok};
+ghost use Rattle.std.specs.FinMap as map;
+ghost use Rattle.abi_types.specs.declared.call.Call.TheVariants as call;
+ghost use Rattle.abi_types.specs.declared.constants.Constants.{Constants};
+ghost use Rattle.abi_types.specs.declared.reply.Answer.{Answer};
+ghost use Rattle.run_model.specs.World.{child_guest};
+ghost use Rattle.kernel_core.specs.Waiting.{caller};
+ghost use Rattle.kernel_model.specs.Outcome.{is_parked};
+ghost use Rattle.kernel_model.specs.State.{State};
+ghost use Rattle.kernel_model.specs.Step.{IsStep};
+ghost use Rattle.kernel_model.specs.Threads.{child_told};
+ghost use Rattle.kernel_cell.specs.Afterwards.{act_of, after_call, after_wake, end_of, if_live, status_of, unless_lost};
+
+use crate::results::{After, EndBy};
+use abi_types::{Answer, Call, Payload, Pid, Signal, Status, Tid};
+use guest_process::{Guest, begins_program, ends_caller, makes_thread};
+use kernel_core::Kernel;
+use run_types::Act;
+use std::alloc::{AllocError, Global};
+
+// The act by which a process is ended from outside.
+pub(crate) fn act_of(how: EndBy) -> Act
+    ensures { result ≡ act_of how }
+{
+    match how {
+        EndBy::Trap(signal) => Act::Trap(signal),
+        EndBy::Expire => Act::Expire,
+    }
+}
+
+// The status that it has then.
+pub(crate) fn status_of(how: EndBy) -> Status
+    ensures { result ≡ status_of how }
+{
+    match how {
+        EndBy::Trap(signal) => Status::Killed(signal),
+        EndBy::Expire => Status::Killed(Signal::Xcpu),
+    }
+}
+
+// Whether the answer is that the thread waits.
+fn is_parked(answer: &Answer) -> bool
+    ensures { result ≡ is_parked answer.now }
+{
+    matches!(answer, Answer::Parked(_))
+}
+
+// What became of the thread that made a call, by whether it waits, whether the call made a thread, which has the number `next`, whether it
+// ended this one, and whether another program began by it.
+fn end_of(waits: bool, makes: bool, ends: bool, begins: bool, next: Tid) -> After
+    ensures { result ≡ end_of waits makes ends begins next }
+{
+    match (waits, makes, ends, begins) {
+        (true, _, _, _) => After::Waits,
+        (false, true, _, _) => After::Starts(next),
+        (false, false, true, _) => After::Leaves,
+        (false, false, false, true) => After::Begins,
+        (false, false, false, false) => After::Runs,
+    }
+}
+
+// What became of the thread whose call was answered so.
+pub(crate) fn after_call(call: &Call, answer: &Answer, next: Tid) -> After
+    ensures { result ≡ after_call call.now answer.now next }
+{
+    end_of(
+        is_parked(answer),
+        makes_thread(call, answer),
+        ends_caller(call, answer),
+        begins_program(call, answer),
+        next,
+    )
+}
+
+// What became of a thread that was woken and answered so.
+pub(crate) fn after_wake(answer: &Answer) -> After
+    ensures { result ≡ after_wake (is_parked answer.now) }
+{
+    match answer {
+        Answer::Parked(_) => After::Waits,
+        Answer::Reply(_) => After::Runs,
+    }
+}
+
+// The same, by whether its process is live.
+pub(crate) fn if_live(live: bool, after: After) -> After
+    ensures { result ≡ if_live live after }
+{
+    if live { after } else { After::Ended }
+}
+
+// The same, where the program that began by its call, if one did, had memory or not.
+pub(crate) fn unless_lost(begun: Result<(), AllocError>, after: After) -> After
+    ensures { result ≡ unless_lost (is_ok begun) after }
+{
+    match begun {
+        Ok(()) => after,
+        Err(_) => After::Lost,
+    }
+}
+
+// The process that the answer to a proc_fork tells.
+pub(crate) fn child_told(answer: &Answer) -> Option<Pid>
+    ensures { (left : ℕ) → result ≡ child_told (call.ProcFork left) answer.now }
+{
+    let Answer::Reply(reply) = answer else {
+        return None;
+    };
+    match &reply.payload {
+        Payload::Child(child) => Some(Pid(*child)),
+        _ => None,
+    }
+}
+
+// The guest of the child that a thread's proc_fork with this guest may make. There is none where the kernel makes no child.
+pub(crate) fn child_guest(
+    kernel: &Kernel,
+    alloc: Global,
+    pid: Pid,
+    tid: Tid,
+    guest: &mut Guest,
+) -> Result<Option<Guest>, AllocError>
+    requires thread { IsSome (map.get guest.old.regs tid) }
+    ensures some { IfOk result (λ made. IfSome made (λ child. child ≡ child_guest guest.old tid)) }
+    ensures none { IfOk result (λ made. IsNone made → (constants : Constants) (given : Answer) (after : State)
+        → IsStep constants kernel.now (caller kernel.now pid tid) (call.ProcFork guest.old.left) given after
+        → child_told (call.ProcFork guest.old.left) given ≡ None) }
+    ensures same { guest.new ≡ guest.old }
+{
+    if !kernel.may_fork(pid, tid, guest.left) {
+        return Ok(None);
+    }
+    let child = guest.fork(alloc, tid)?;
+    Ok(Some(child))
+}
