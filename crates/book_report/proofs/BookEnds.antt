@@ -1,11 +1,10 @@
 -- What the record of a run is that its book says.
 use Rattle.std.proofs.Common.{◌≡◌, ◌≢◌, ℕ, Bool, List, [], inl, inr, refl, sym, ap, subst, ◌∙◌}
-use Rattle.std.specs.Prelude.{Option}
 use Rattle.std.specs.FinMap.{empty, get}
 use Rattle.maps.specs.Maps.{get-insert-same}
 use Rattle.abi_types.specs.declared.status.Status.TheVariants.{Live}
 use Rattle.abi_types.specs.declared.thread.Thread.TheVariants.{Runnable}
-use Rattle.input_output.specs.Sink.{grown, GrewByPrefix}
+use Rattle.input_output.specs.Sink.{grown}
 use Rattle.run_types.specs.declared.history.Entry.{Entry}
 use Rattle.run_types.specs.declared.launch.Launch.{Launch}
 use Rattle.kernel_model.specs.Ends.{NoneLive}
@@ -23,16 +22,8 @@ use Rattle.book_report.specs.declared.ends.Ending.TheVariants as ending
 use Rattle.book_report.specs.declared.ends.RunEnd.{RunEnd}
 use Rattle.book_report.specs.declared.ends.RunEnd.TheVariants.{Unwritten, Lacking}
 use Rattle.book_report.specs.Ends.{IsOver, IsOverSo, IsRecordOf, IsEndOf, reported_end}
+use Rattle.book_report.specs.Growth.{Growth, FaultsRose, WroteNothing, WrotePrefix, WroteWhole}
 use Rattle.book_report.specs.Shown.{recorded}
-
--- a book of a launch is of its own
-pub of_itself : (launch : Launch) (lines : Bool) (book : Book) → IsBookOf launch lines book → IsBookOf book.launch lines book
-of_itself launch lines book of = subst (λ (l : Launch). IsBookOf l lines book) (sym of.launch_is) of
-
--- a history of a launch that is stalled is of its book's
-pub stalled_of_itself : (launch : Launch) (lines : Bool) (book : Book) → IsBookOf launch lines book → Stalled launch book.history
-    → Stalled book.launch book.history
-stalled_of_itself launch lines book of stalled = subst (λ (l : Launch). Stalled l book.history) (sym of.launch_is) stalled
 
 -- process 0 is live where there is no entry
 first_live : (launch : Launch) → IsLiveIn (world launch []) 0
@@ -57,30 +48,23 @@ module _ (book : Book) (all : Bool) (of : IsBookOf book.launch all book) where
   over ending.Stalled stalled = inr stalled
 
   module _ (text : Record → List ℕ) where
-    reported_as : (how : Ending) → IsOverSo how book → (before after : Option (List ℕ)) (rose : Type 0)
-        → after ≡ grown before (text (recorded book)) → IsEndOf book.launch all text before after rose (reported_end how book)
-    reported_as ending.Ended none before after rose grew = (record_is, subst NoneLive of.state none, ap (λ (S : State). get S.statuses 0) of.state, grew)
-    reported_as ending.Stalled stalled before after rose grew = (record_is, stalled, grew)
+    reported_as : (how : Ending) → IsOverSo how book → (growth : Growth) → WroteWhole growth (text (recorded book))
+        → IsEndOf book.launch all text growth (reported_end how book)
+    reported_as ending.Ended none growth wrote = (record_is, subst NoneLive of.state none, ap (λ (S : State). get S.statuses 0) of.state, wrote)
+    reported_as ending.Stalled stalled growth wrote = (record_is, stalled, wrote)
 
-    module _ (how : Ending) (is_over : IsOverSo how book) (before after : Option (List ℕ)) (rose : Type 0) where
+    module _ (how : Ending) (is_over : IsOverSo how book) (growth : Growth) where
       pub reported : (end : RunEnd) → end ≡ reported_end how book → (shown : List ℕ) → shown ≡ text (recorded book)
-          → after ≡ grown before shown → IsEndOf book.launch all text before after rose end
-      reported end is shown same grew =
-          subst (IsEndOf book.launch all text before after rose) (sym is) (reported_as how is_over before after rose (grew ∙ ap (grown before) same))
+          → WroteWhole growth shown → IsEndOf book.launch all text growth end
+      reported end is shown same wrote =
+          subst (IsEndOf book.launch all text growth) (sym is) (reported_as how is_over growth (wrote ∙ ap (grown growth.before) same))
 
-      pub unwritten : (rec : Record) → rec ≡ recorded book → (shown : List ℕ) → shown ≡ text (recorded book) → rose
-          → GrewByPrefix before after shown → IsEndOf book.launch all text before after rose (Unwritten rec)
-      unwritten rec is shown same failed grew =
-          subst (λ (r : Record). IsEndOf book.launch all text before after rose (Unwritten r)) (sym is)
-          (record_is, over how is_over, failed, subst (GrewByPrefix before after) same grew)
+      pub unwritten : (rec : Record) → rec ≡ recorded book → (shown : List ℕ) → shown ≡ text (recorded book) → FaultsRose growth
+          → WrotePrefix growth shown → IsEndOf book.launch all text growth (Unwritten rec)
+      unwritten rec is shown same failed wrote =
+          subst (λ (r : Record). IsEndOf book.launch all text growth (Unwritten r)) (sym is)
+          (record_is, over how is_over, failed, subst (WrotePrefix growth) same wrote)
 
-      pub unreported : (rec : Record) → rec ≡ recorded book → after ≡ before → IsEndOf book.launch all text before after rose (Lacking rec)
-      unreported rec is same =
-          subst (λ (r : Record). IsEndOf book.launch all text before after rose (Lacking r)) (sym is) (record_is, has_entry how is_over, same)
-
--- a run for which memory ran out after its first entry
-pub lacking : (launch : Launch) (all : Bool) (book : Book) → IsBookOf launch all book → book.history ≢ [] → (text : Record → List ℕ) (before after : Option (List ℕ))
-    (rose : Type 0) (rec : Record) → rec ≡ recorded book → after ≡ before → IsEndOf launch all text before after rose (Lacking rec)
-lacking launch all book of some text before after rose rec is same =
-    subst (λ (r : Record). IsEndOf launch all text before after rose (Lacking r)) (sym is)
-    (subst (λ (l : Launch). IsRecordOf l all (recorded book)) of.launch_is (record_is book all (of_itself launch all book of)), some, same)
+      pub unreported : (rec : Record) → rec ≡ recorded book → WroteNothing growth → IsEndOf book.launch all text growth (Lacking rec)
+      unreported rec is none =
+          subst (λ (r : Record). IsEndOf book.launch all text growth (Lacking r)) (sym is) (record_is, has_entry how is_over, none)

@@ -1,8 +1,6 @@
--- How a run came to its end, and what was written of it then. What a sink shows of its bytes is as its trait says (a sink may show nothing). A
--- count of faults rose in a call where it is greater afterwards, or stands at its last value.
-use Rattle.std.specs.Prelude.{◌≡◌, ◌≢◌, ◌⊎◌, ℕ, Bool, List, [], Option}
+-- How a run came to its end, and what was written of it then.
+use Rattle.std.specs.Prelude.{◌≡◌, ◌≢◌, ◌⊎◌, ℕ, Bool, List, []}
 use Rattle.std.specs.FinMap.{get}
-use Rattle.input_output.specs.Sink.{grown, GrewByPrefix}
 use Rattle.kernel_cell.specs.declared.cell.Book.{Book}
 use Rattle.kernel_cell.specs.declared.record.Record.{Record}
 use Rattle.shared_history.specs.Kept.{IsKeptOf}
@@ -11,6 +9,7 @@ use Rattle.run_types.specs.declared.launch.Launch.{Launch}
 use Rattle.kernel_model.specs.Ends.{NoneLive}
 use Rattle.run_model.specs.Ends.{Ended, Stalled}
 use Rattle.run_model.specs.Legal.{Legal}
+use Rattle.book_report.specs.Growth.{Growth, FaultsRose, WroteNothing, WrotePrefix, WroteWhole}
 use Rattle.book_report.specs.Shown.{recorded, state_of}
 use Rattle.book_report.specs.declared.ends.Ending.{Ending}
 use Rattle.book_report.specs.declared.ends.Ending.TheVariants as ending
@@ -37,14 +36,13 @@ pub record IsRecordOf (launch : Launch) (all : Bool) (r : Record) : Type 0 where
   pub legal : Legal r.launch r.history
   pub kept_is : IsKeptOf all r.history r.kept
 
--- How a run of the launch came to its end, where before and after are what the sink shows of its bytes, and rose says
--- that its count of faults rose. The text, such as the report, is of the record of a run that is over, and was written whole, or a prefix
--- of it where the sink failed; where memory ran out, nothing was written of it, and a run that began has an entry.
-abbrev pub IsEndOf : Launch → Bool → (Record → List ℕ) → Option (List ℕ) → Option (List ℕ) → Type 0 → RunEnd → Type 0
-IsEndOf launch all text before after rose (Reported r status) =
-    IsRecordOf launch all r × Ended r.launch r.history × (status ≡ get (state_of r).statuses 0) × (after ≡ grown before (text r))
-IsEndOf launch all text before after rose (StallReported r) =
-    IsRecordOf launch all r × Stalled r.launch r.history × (after ≡ grown before (text r))
-IsEndOf launch all text before after rose (Unwritten r) = IsRecordOf launch all r × IsOver r.launch r.history × rose × GrewByPrefix before after (text r)
-IsEndOf launch all text before after rose NotBegun = after ≡ before
-IsEndOf launch all text before after rose (Lacking r) = IsRecordOf launch all r × (r.history ≢ []) × (after ≡ before)
+-- How a run of the launch came to its end, and what the sink did. The text, such as the report, is of the record of a run that is over, and was
+-- written whole, or a prefix of it where the sink failed; where memory ran out, nothing was written of it, and a run that began has an entry.
+abbrev pub IsEndOf : Launch → Bool → (Record → List ℕ) → Growth → RunEnd → Type 0
+IsEndOf launch all text growth (Reported r status) =
+    IsRecordOf launch all r × Ended r.launch r.history × (status ≡ get (state_of r).statuses 0) × WroteWhole growth (text r)
+IsEndOf launch all text growth (StallReported r) = IsRecordOf launch all r × Stalled r.launch r.history × WroteWhole growth (text r)
+IsEndOf launch all text growth (Unwritten r) =
+    IsRecordOf launch all r × IsOver r.launch r.history × FaultsRose growth × WrotePrefix growth (text r)
+IsEndOf launch all text growth NotBegun = WroteNothing growth
+IsEndOf launch all text growth (Lacking r) = IsRecordOf launch all r × (r.history ≢ []) × WroteNothing growth

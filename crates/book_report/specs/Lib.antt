@@ -1,3 +1,4 @@
+pub mod Growth
 pub mod Shown
 pub mod Ends
 pub mod KeptReports

@@ -1,8 +1,8 @@
 //! How the run of a launch ended, and what was written of it then.
 ghost use Rattle.std.specs.Prelude.{◌≡◌, ◌≤◌};
-ghost use Rattle.input_output.specs.Source.{Rose};
 ghost use Rattle.kernel_cell.specs.Cell.{IsBookOf};
 ghost use Rattle.book_report.specs.Ends.{IsEndOf, IsOverSo, reported_end};
+ghost use Rattle.book_report.specs.Growth.{growth};
 ghost use Rattle.book_report.specs.Shown.{keeps_entries, recorded, shown_text};
 
 use crate::shown::Shown;
@@ -77,7 +77,7 @@ pub fn report_run<K: Sink>(
     requires of { IsBookOf book.launch (keeps_entries shown) book }
     requires over { IsOverSo ending book }
     ensures faults_never_fall { K.faults sink.old ≤ K.faults sink.new }
-    ensures end { IsEndOf book.launch (keeps_entries shown) (shown_text shown) (K.written sink.old) (K.written sink.new) (Rose (K.faults sink.old) (K.faults sink.new)) result }
+    ensures end { IsEndOf book.launch (keeps_entries shown) (shown_text shown) (growth K.written K.faults sink.old sink.new) result }
 {
     let Ok(text) = shown.text(alloc, &book) else {
         return RunEnd::Lacking(record_of(book));

@@ -17,8 +17,9 @@ use Rattle.launch_reading.specs.Launch.{Described, unknown, refuses, describes, 
 use Rattle.launch_reading.specs.LaunchText.{TextPlan, planned_text}
 use Rattle.launch_reading.specs.Refusal.{too_long_line}
 use Rattle.launch_reading.specs.declared.inputs.Inputs.{Inputs}
-use Rattle.launch_run.specs.TopCall.{IsTopEnd}
+use Rattle.book_report.specs.Growth.{Growth}
 use Rattle.book_report.specs.Shown.{record_summary}
+use Rattle.launch_run.specs.TopCall.{IsTopEnd}
 use Rattle.launch_run.specs.GeneratedCall.{AreShort, IsGeneratedRun, IsSourceFor, generated_content, generated_describe, generated_inputs, settings_for}
 use Rattle.launch_run.specs.declared.top.TopEnd.{TopEnd}
 
@@ -82,14 +83,14 @@ source_for processes g is (Err error) same short = tt
 
 -- a run of inputs that were generated
 pub run_of : (numbers : GenerateSettings) (inputs : List Input) → IsSourceFor numbers.processes inputs → (settings : Settings) → settings ≡ settings_for numbers
-    → (before after : Option (List ℕ)) (rose : Type 0) (end : TopEnd)
-    → IsTopEnd (Some settings) (content_steadily inputs) (Rose 0 0) (record_summary numbers.processes) before after rose end → IsGeneratedRun numbers before after rose end
-run_of numbers inputs source settings same before after rose end ends = record {
+    → (growth : Growth) (end : TopEnd)
+    → IsTopEnd (Some settings) (content_steadily inputs) (Rose 0 0) (record_summary numbers.processes) growth end → IsGeneratedRun numbers growth end
+run_of numbers inputs source settings same growth end ends = record {
   generated = source.generated;
   is = source.is;
   short = source.short;
   ends =
-      subst (λ (s : Settings). IsTopEnd (Some s) (generated_content source.generated) (Rose 0 0) (record_summary numbers.processes) before after rose end) same
-      (subst (λ (all : List Input). IsTopEnd (Some settings) (content_steadily all) (Rose 0 0) (record_summary numbers.processes) before after rose end)
+      subst (λ (s : Settings). IsTopEnd (Some s) (generated_content source.generated) (Rose 0 0) (record_summary numbers.processes) growth end) same
+      (subst (λ (all : List Input). IsTopEnd (Some settings) (content_steadily all) (Rose 0 0) (record_summary numbers.processes) growth end)
       source.inputs_are ends);
 }

@@ -13,7 +13,8 @@ use Rattle.book_report.specs.declared.ends.RunEnd.{RunEnd}
 use Rattle.book_report.specs.declared.ends.RunEnd.TheVariants.{Reported, StallReported, Unwritten, NotBegun, Lacking}
 use Rattle.kernel_cell.specs.declared.record.Record.{Record}
 use Rattle.book_report.specs.Ends.{IsEndOf}
-use Rattle.launch_run.specs.TopCall.{IsReportedEnd, ReportsEnd, Wrote}
+use Rattle.book_report.specs.Growth.{Wrote, WroteNothing, growth}
+use Rattle.launch_run.specs.TopCall.{IsReportedEnd, ReportsEnd}
 
 by_cases : (first before after : ℕ) → first ≤ before → before + 1 ≡ 2 ^ 64 → (before < after) ⊎ (after ≤ before) → before ≤ after → Rose first after
 by_cases first before after early last (inl more) late = inl (omega (arith, early, more))
@@ -23,16 +24,21 @@ pub rose_until : (first before after : ℕ) → first ≤ before → before ≤ 
 rose_until first before after early late (inl more) = inl (omega (arith, more, late))
 rose_until first before after early late (inr last) = by_cases first before after early last (cases_lt before after) late
 
-module _ (launch : Launch) (all : Bool) (text : Record → List ℕ) (before between after : Option (List ℕ)) (faults mid end : ℕ) (early : faults ≤ mid) (late : mid ≤ end) where
-  wrote : between ≡ before → Wrote between after (Rose mid end) memory_line → Wrote before after (Rose faults end) memory_line
+module _ {S : Type 0} (launch : Launch) (all : Bool) (text : Record → List ℕ) (written : S → Option (List ℕ)) (faults : S → ℕ) (first middle last : S) (early : faults first ≤ faults middle) (late : faults middle ≤ faults last) where
+  wrote : WroteNothing (growth written faults first middle) → Wrote (growth written faults middle last) memory_line → Wrote (growth written faults first last) memory_line
   wrote same (inl whole) = inl (whole ∙ ap (λ b. grown b memory_line) same)
-  wrote same (inr (rose, part)) = inr (rose_since faults mid end early rose, subst (λ (b : Option (List ℕ)). GrewByPrefix b after memory_line) same part)
+  wrote same (inr (rose, part)) =
+      inr (rose_since (faults first) (faults middle) (faults last) early rose, subst (λ (b : Option (List ℕ)). GrewByPrefix b (written last) memory_line) same part)
 
-  pub ends_reported : (e : RunEnd) → IsEndOf launch all text before between (Rose faults mid) e → ReportsEnd between after (Rose mid end) e
-      → IsReportedEnd launch all text before after (Rose faults end) e
+  pub ends_reported : (e : RunEnd) → IsEndOf launch all text (growth written faults first middle) e → ReportsEnd (growth written faults middle last) e
+      → IsReportedEnd launch all text (growth written faults first last) e
   ends_reported (Reported r status) is stays = (is.0, is.1, is.2, stays ∙ is.3)
   ends_reported (StallReported r) is stays = (is.0, is.1, stays ∙ is.2)
-  ends_reported (Unwritten r) is stays =
-      (is.0, is.1, rose_until faults mid end early late is.2, subst (λ (a : Option (List ℕ)). GrewByPrefix before a (text r)) (sym stays) is.3)
+  ends_reported (Unwritten r) is stays = (
+    is.0,
+    is.1,
+    rose_until (faults first) (faults middle) (faults last) early late is.2,
+    subst (λ (a : Option (List ℕ)). GrewByPrefix (written first) a (text r)) (sym stays) is.3,
+  )
   ends_reported NotBegun is line = wrote is line
   ends_reported (Lacking r) is line = (is.0, is.1, wrote is.2 line)

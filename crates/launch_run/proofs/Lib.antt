@@ -1,6 +1,5 @@
-pub mod GeneratedClauses
+pub mod GeneratedAnswers
 pub mod GeneratedInputs
 pub mod Refusals
-pub mod TopClauses
+pub mod TopAnswers
 pub mod LastLines
-pub mod HeadlineClauses

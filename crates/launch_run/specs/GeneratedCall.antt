@@ -9,10 +9,11 @@ use Rattle.command_line.specs.Settings.{Settings}
 use Rattle.command_line.specs.declared.generating.GenerateSettings.{GenerateSettings}
 use Rattle.guest_kit.specs.Generated.{IsGenerated}
 use Rattle.guest_kit.specs.declared.generated.Generated.{Generated}
-use Rattle.launch_reading.specs.Launch.{Described, input_limit, inputs_describe}
+use Rattle.launch_reading.specs.Launch.{Described, refuses, input_limit, inputs_describe}
 use Rattle.launch_reading.specs.Refusal.{memory_line, words_line}
-use Rattle.launch_run.specs.TopCall.{IsTopEnd, Wrote}
+use Rattle.book_report.specs.Growth.{Growth, Wrote}
 use Rattle.book_report.specs.Shown.{record_summary}
+use Rattle.launch_run.specs.TopCall.{IsTopEnd}
 use Rattle.launch_run.specs.declared.top.TopEnd.{TopEnd}
 use Rattle.launch_run.specs.declared.top.TopEnd.TheVariants.{Refused}
 use Rattle.launch_reading.specs.declared.refusal.LaunchRefusal.TheVariants.{Words, Memory}
@@ -56,10 +57,11 @@ pub record IsSourceFor (processes : ℕ) (inputs : List Input) : Type 0 where
   pub short : AreShort generated
   pub inputs_are : inputs ≡ generated_inputs generated
 
--- words give these numbers, something is generated for them, and this holds of it
-abbrev pub OfGenerated : Option GenerateSettings → (GenerateSettings → Generated → Type 0) → Type 0
-OfGenerated None P = ⊥
-OfGenerated (Some numbers) P = (g : Generated) × IsGenerated numbers.processes g × P numbers g
+-- P holds of the settings of a run of these numbers, and of what is described by what is generated for them; or, where words give no numbers,
+-- of no settings, and of the refusal of these words
+abbrev pub OfGenerated : Option GenerateSettings → (Option Settings → Described → Type 0) → Type 0
+OfGenerated None P = P None (refuses 2 words_line)
+OfGenerated (Some numbers) P = (g : Generated) × IsGenerated numbers.processes g × P (Some (settings_for numbers)) (generated_describe numbers g)
 
 -- the number of child processes that words give, and 0 where they give none
 abbrev pub processes_in : Option GenerateSettings → ℕ
@@ -67,20 +69,20 @@ processes_in None = 0
 processes_in (Some numbers) = numbers.processes
 
 -- the call refused, for lack of memory, to generate or to read what was generated
-abbrev pub IsUngenerated : Option (List ℕ) → Option (List ℕ) → Type 0 → TopEnd → Type 0
-IsUngenerated before after rose end = (end ≡ Refused Memory) × Wrote before after rose memory_line
+abbrev pub IsUngenerated : Growth → TopEnd → Type 0
+IsUngenerated growth end = (end ≡ Refused Memory) × Wrote growth memory_line
 
 -- a run of these numbers and of what was generated
-pub record IsGeneratedRun (numbers : GenerateSettings) (before after : Option (List ℕ)) (rose : Type 0) (end : TopEnd) : Type 0 where
+pub record IsGeneratedRun (numbers : GenerateSettings) (growth : Growth) (end : TopEnd) : Type 0 where
   pub generated : Generated
   pub is : IsGenerated numbers.processes generated
   pub short : AreShort generated
-  pub ends : IsTopEnd (Some (settings_for numbers)) (generated_content generated) (Rose 0 0) (record_summary numbers.processes) before after rose end
+  pub ends : IsTopEnd (Some (settings_for numbers)) (generated_content generated) (Rose 0 0) (record_summary numbers.processes) growth end
 
 -- how the call ended
-abbrev pub IsGeneratedEnd : Option GenerateSettings → Option (List ℕ) → Option (List ℕ) → Type 0 → TopEnd → Type 0
-IsGeneratedEnd None before after rose end = (end ≡ Refused Words) × Wrote before after rose words_line
-IsGeneratedEnd (Some numbers) before after rose end = IsUngenerated before after rose end ⊎ IsGeneratedRun numbers before after rose end
+abbrev pub IsGeneratedEnd : Option GenerateSettings → Growth → TopEnd → Type 0
+IsGeneratedEnd None growth end = (end ≡ Refused Words) × Wrote growth words_line
+IsGeneratedEnd (Some numbers) growth end = IsUngenerated growth end ⊎ IsGeneratedRun numbers growth end
 
 -- one of the statuses that the call may answer: no input is read from outside, so none is refused for that
 abbrev pub IsGeneratedStatus : ℕ → Type 0

@@ -1,13 +1,12 @@
 //! The top call of a run whose program, launch text and tree document are generated.
-ghost use Rattle.std.specs.Prelude.{◌≡◌, ◌≢◌, ◌⊎◌, ◌≤◌, ◌∷◌, [], None, Some, OnOk, IfOk, IsSome, IfSome, IsSomeAnd, length, map, string_bytes};
-ghost use Rattle.input_output.specs.Source.{Rose};
+ghost use Rattle.std.specs.Prelude.{◌≡◌, ◌≤◌, ◌∷◌, None, Some, OnOk, IfOk, length, map, string_bytes};
 ghost use Rattle.command_line.specs.Generating.{generate_of, IsGenerateWithin};
 ghost use Rattle.command_line.specs.Settings.{IsWithin, view};
 ghost use Rattle.launch_reading.specs.Launch.{input_limit};
-ghost use Rattle.launch_reading.specs.Refusal.{memory_line, words_line};
+ghost use Rattle.book_report.specs.Growth.{growth};
 ghost use Rattle.book_report.specs.Shown.{record_summary};
-ghost use Rattle.launch_run.specs.TopCall.{Wrote, IsProgramRefused, IsTreeRefused, IsTextRefused, IsKept, IsConfinedRecord, LeavesUnwritten, Completes, HasEndedWith, HasFailedWith, HasStalledWith};
-ghost use Rattle.launch_run.specs.GeneratedCall.{AreShort, IsGeneratedEnd, IsGeneratedStatus, IsSourceFor, OfGenerated, generated_describe, generated_inputs, processes_in, settings_for};
+ghost use Rattle.launch_run.specs.Answer.{IsAnswer};
+ghost use Rattle.launch_run.specs.GeneratedCall.{AreShort, IsGeneratedEnd, IsGeneratedStatus, IsSourceFor, OfGenerated, generated_inputs, processes_in, settings_for};
 
 use crate::top::{Finished, TopEnd, finish, refused, run_settings};
 use book_report::Shown;
@@ -85,7 +84,7 @@ fn run_numbers<K: Sink, G: Gate + Sync, R: Threads + Wait + Sync>(
 ) -> TopEnd<'static>
     requires { IsGenerateWithin numbers }
     ensures sink_faults { K.faults sink.old ≤ K.faults sink.new }
-    ensures end { IsGeneratedEnd (Some numbers) (K.written sink.old) (K.written sink.new) (Rose (K.faults sink.old) (K.faults sink.new)) result }
+    ensures end { IsGeneratedEnd (Some numbers) (growth K.written K.faults sink.old sink.new) result }
 {
     let processes = numbers.processes;
     let Ok(mut source) = generated_source(alloc, processes) else {
@@ -105,7 +104,7 @@ fn generate_and_run<K: Sink, G: Gate + Sync, R: Threads + Wait + Sync>(
     sink: &mut K,
 ) -> TopEnd<'static>
     ensures sink_faults { K.faults sink.old ≤ K.faults sink.new }
-    ensures end { IsGeneratedEnd (generate_of (map string_bytes words.now)) (K.written sink.old) (K.written sink.new) (Rose (K.faults sink.old) (K.faults sink.new)) result }
+    ensures end { IsGeneratedEnd (generate_of (map string_bytes words.now)) (growth K.written K.faults sink.old sink.new) result }
 {
     match read_generate(words) {
         Some(numbers) => run_numbers(rt, alloc, numbers, gate, sink),
@@ -130,35 +129,14 @@ pub fn run_generated<K: Sink, G: Gate + Sync, R: Threads + Wait + Sync>(
 ) -> Finished
     ensures sink_faults { K.faults sink.old ≤ K.faults sink.new }
 
-    // When each status comes, and what is written for it.
+    // Which statuses there are, none of them for an input, and when that of the words comes.
     ensures statuses { IsGeneratedStatus result.status }
     ensures words { result.status ≡ 2 → generate_of (map string_bytes words.now) ≡ None }
     ensures words_refused { generate_of (map string_bytes words.now) ≡ None → result.status ≡ 2 }
-    ensures words_line { result.status ≡ 2 → Wrote (K.written sink.old) (K.written sink.new) (Rose (K.faults sink.old) (K.faults sink.new)) words_line }
-    ensures program { result.status ≡ 67 → OfGenerated (generate_of (map string_bytes words.now)) (λ numbers g. IsProgramRefused (generated_describe numbers g)
-        (Wrote (K.written sink.old) (K.written sink.new) (Rose (K.faults sink.old) (K.faults sink.new)))) }
-    ensures tree { result.status ≡ 68 → OfGenerated (generate_of (map string_bytes words.now)) (λ numbers g. IsTreeRefused (generated_describe numbers g)
-        (Wrote (K.written sink.old) (K.written sink.new) (Rose (K.faults sink.old) (K.faults sink.new)))) }
-    ensures launch_text { result.status ≡ 65 → OfGenerated (generate_of (map string_bytes words.now)) (λ numbers g. IsTextRefused (generated_describe numbers g)
-        (Wrote (K.written sink.old) (K.written sink.new) (Rose (K.faults sink.old) (K.faults sink.new)))) }
-    ensures memory { result.status ≡ 70 → Wrote (K.written sink.old) (K.written sink.new) (Rose (K.faults sink.old) (K.faults sink.new)) memory_line
-        × IfSome result.kept (λ r. r.history ≢ []) }
-    ensures ended { (result.status ≡ 0) ⊎ (result.status ≡ 1)
-        → IsSomeAnd result.kept (HasEndedWith (record_summary (processes_in (generate_of (map string_bytes words.now)))) (K.written sink.old) (K.written sink.new) result.status) }
-    ensures stalled { result.status ≡ 71
-        → IsSomeAnd result.kept (HasStalledWith (record_summary (processes_in (generate_of (map string_bytes words.now)))) (K.written sink.old) (K.written sink.new)) }
-    ensures unwritten { result.status ≡ 69 → Rose (K.faults sink.old) (K.faults sink.new)
-        × IsSomeAnd result.kept (HasFailedWith (record_summary (processes_in (generate_of (map string_bytes words.now)))) (K.written sink.old) (K.written sink.new)) }
 
-    // What is kept: the headline, and what follows from it.
-    ensures headline { IfSome result.kept IsConfinedRecord }
-    ensures unwritten_stays { IfSome result.kept LeavesUnwritten }
-    ensures kept { IfSome result.kept (λ r. OfGenerated (generate_of (map string_bytes words.now)) (λ numbers g. IsKept (Some (settings_for numbers)) (generated_describe numbers g) r)) }
-    ensures none_kept { IsSome result.kept → (result.status ≡ 0) ⊎ (result.status ≡ 1) ⊎ (result.status ≡ 69) ⊎ (result.status ≡ 70) ⊎ (result.status ≡ 71) }
-
-    // What is described by what is generated is answered.
-    ensures complete { generate_of (map string_bytes words.now) ≢ None → (result.status ≡ 70)
-        ⊎ OfGenerated (generate_of (map string_bytes words.now)) (λ numbers g. Completes (generated_describe numbers g) (Rose (K.faults sink.old) (K.faults sink.new)) result.status) }
+    // What each status says and what was written, what is kept, and what is answered: nothing is read, so no fault comes.
+    ensures answer { IsAnswer (OfGenerated (generate_of (map string_bytes words.now))) ⊥ (record_summary (processes_in (generate_of (map string_bytes words.now))))
+        (growth K.written K.faults sink.old sink.new) result }
 {
     finish(generate_and_run(rt, alloc, words, gate, sink))
 }

@@ -1,14 +1,17 @@
 //! The top call: from the words of a command line to a status, a record, and what is written.
-ghost use Rattle.std.specs.Prelude.{◌≡◌, ◌≢◌, ◌⊎◌, ◌≤◌, ℕ, List, [], None, Some, IsSome, IfSome, IsSomeAnd, map, string_bytes, All};
+ghost use Rattle.std.specs.Prelude.{◌≡◌, ◌⊎◌, ◌≤◌, ℕ, List, None, Some, map, string_bytes, All};
 ghost use Rattle.input_output.specs.Source.{Rose};
 ghost use Rattle.command_line.specs.Settings.{IsWithin, view};
 ghost use Rattle.command_line.specs.Reading.{words_of};
 ghost use Rattle.launch_reading.specs.Launch.{launch_of, inputs_of, settings_inputs, asks_history};
-ghost use Rattle.launch_reading.specs.Refusal.{line_of, words_line, memory_line};
+ghost use Rattle.launch_reading.specs.Refusal.{line_of};
 ghost use Rattle.call_codec.specs.Bounded.{IsBounded};
 ghost use Rattle.book_report.specs.Ends.{IsEndOf};
+ghost use Rattle.book_report.specs.Growth.{Wrote, growth};
 ghost use Rattle.book_report.specs.Shown.{keeps_entries, record_report, shown_text};
-ghost use Rattle.launch_run.specs.TopCall.{Wrote, IsReportedEnd, ReportsEnd, IsTopEnd, IsTopStatus, IsInputRefused, IsProgramRefused, IsTreeRefused, IsTextRefused, HasReported, HasStalled, HasFailed, IsKept, IsConfinedRecord, LeavesUnwritten, Completes, status_number, finished_run, finished_of};
+ghost use Rattle.launch_run.specs.Answer.{IsAnswer, OfWords};
+ghost use Rattle.launch_run.specs.Results.{IsInputRefused, IsTopStatus, status_number};
+ghost use Rattle.launch_run.specs.TopCall.{IsReportedEnd, IsTopEnd, ReportsEnd, finished_of, finished_run};
 ghost use Rattle.launch_run.specs.declared.top.TopEnd.TheVariants.{Refused};
 
 use abi_types::Status;
@@ -53,7 +56,7 @@ fn run_launched<K: Sink, G: Gate + Sync, R: Threads + Wait + Sync>(
 ) -> RunEnd
     requires { IsBounded launch }
     ensures faults_never_fall { K.faults sink.old ≤ K.faults sink.new }
-    ensures end { IsEndOf launch (keeps_entries shown) (shown_text shown) (K.written sink.old) (K.written sink.new) (Rose (K.faults sink.old) (K.faults sink.new)) result }
+    ensures end { IsEndOf launch (keeps_entries shown) (shown_text shown) (growth K.written K.faults sink.old sink.new) result }
 {
     match drive(rt, alloc, launch, workers, gate, shown.keeps_entries()) {
         Driven::Ended(book) => report_run(alloc, book, Ending::Ended, shown, sink),
@@ -66,7 +69,7 @@ fn run_launched<K: Sink, G: Gate + Sync, R: Threads + Wait + Sync>(
 // Says that memory ran out, where it was. A fault of the sink changes nothing of the end.
 fn report_end<K: Sink>(end: &RunEnd, sink: &mut K)
     ensures faults_never_fall { K.faults sink.old ≤ K.faults sink.new }
-    ensures content { ReportsEnd (K.written sink.old) (K.written sink.new) (Rose (K.faults sink.old) (K.faults sink.new)) end.now }
+    ensures content { ReportsEnd (growth K.written K.faults sink.old sink.new) end.now }
 {
     match end {
         RunEnd::Reported(..) | RunEnd::StallReported(_) | RunEnd::Unwritten(_) => {}
@@ -77,7 +80,7 @@ fn report_end<K: Sink>(end: &RunEnd, sink: &mut K)
 // Writes a refusal's line. A fault of the sink changes nothing of the status.
 fn refuse<K: Sink>(refusal: &LaunchRefusal<'_>, sink: &mut K)
     ensures faults_never_fall { K.faults sink.old ≤ K.faults sink.new }
-    ensures wrote { Wrote (K.written sink.old) (K.written sink.new) (Rose (K.faults sink.old) (K.faults sink.new)) (line_of refusal.now) }
+    ensures wrote { Wrote (growth K.written K.faults sink.old sink.new) (line_of refusal.now) }
 {
     let _ = refusal.write_line(sink);
 }
@@ -94,7 +97,7 @@ fn run_reported<K: Sink, G: Gate + Sync, R: Threads + Wait + Sync>(
 ) -> RunEnd
     requires { IsBounded launch }
     ensures faults_never_fall { K.faults sink.old ≤ K.faults sink.new }
-    ensures end { IsReportedEnd launch (keeps_entries shown) (shown_text shown) (K.written sink.old) (K.written sink.new) (Rose (K.faults sink.old) (K.faults sink.new)) result }
+    ensures end { IsReportedEnd launch (keeps_entries shown) (shown_text shown) (growth K.written K.faults sink.old sink.new) result }
 {
     let end = run_launched(rt, alloc, launch, workers, gate, shown, sink);
     report_end(&end, sink);
@@ -114,7 +117,7 @@ pub enum TopEnd<'a> {
 pub(crate) fn refused<'a, K: Sink>(refusal: LaunchRefusal<'a>, sink: &mut K) -> TopEnd<'a>
     ensures end { result ≡ Refused refusal.entry }
     ensures faults_never_fall { K.faults sink.old ≤ K.faults sink.new }
-    ensures wrote { Wrote (K.written sink.old) (K.written sink.new) (Rose (K.faults sink.old) (K.faults sink.new)) (line_of refusal.entry) }
+    ensures wrote { Wrote (growth K.written K.faults sink.old sink.new) (line_of refusal.entry) }
 {
     refuse(&refusal, sink);
     TopEnd::Refused(refusal)
@@ -136,7 +139,7 @@ pub(crate) fn run_settings<'a, S: Source, K: Sink, G: Gate + Sync, R: Threads + 
     ensures content_stays { (n : List ℕ) → S.content source.new n ≡ S.content source.old n }
     ensures source_faults { S.faults source.old ≤ S.faults source.new }
     ensures sink_faults { K.faults sink.old ≤ K.faults sink.new }
-    ensures end { IsTopEnd (Some (view settings.now)) (S.content source.old) (Rose (S.faults source.old) (S.faults source.new)) (shown_text shown) (K.written sink.old) (K.written sink.new) (Rose (K.faults sink.old) (K.faults sink.new)) result }
+    ensures end { IsTopEnd (Some (view settings.now)) (S.content source.old) (Rose (S.faults source.old) (S.faults source.new)) (shown_text shown) (growth K.written K.faults sink.old sink.new) result }
 {
     match read_launch(alloc, settings, source) {
         Ok(launch) => TopEnd::Ran(run_reported(
@@ -167,7 +170,7 @@ fn launch_and_run<'a, S: Source, K: Sink, G: Gate + Sync, R: Threads + Wait + Sy
     ensures sink_faults { K.faults sink.old ≤ K.faults sink.new }
     ensures unread { words_of (map string_bytes words.now) ≡ None → source.new ≡ source.old }
     ensures end { IsTopEnd (words_of (map string_bytes words.now)) (S.content source.old) (Rose (S.faults source.old) (S.faults source.new))
-        (record_report (asks_history (map string_bytes words.now))) (K.written sink.old) (K.written sink.new) (Rose (K.faults sink.old) (K.faults sink.new)) result }
+        (record_report (asks_history (map string_bytes words.now))) (growth K.written K.faults sink.old sink.new) result }
 {
     match read_words(alloc, words) {
         Ok(settings) => {
@@ -245,35 +248,17 @@ pub fn run_launch<S: Source, K: Sink, G: Gate + Sync, R: Threads + Wait + Sync>(
     ensures source_faults { S.faults source.old ≤ S.faults source.new }
     ensures sink_faults { K.faults sink.old ≤ K.faults sink.new }
 
-    // When each status comes, and what is written for it.
+    // Which statuses there are, and when those of the words and of reading come.
     ensures statuses { IsTopStatus result.status }
     ensures words { result.status ≡ 2 → words_of (map string_bytes words.now) ≡ None }
     ensures words_refused { words_of (map string_bytes words.now) ≡ None → (result.status ≡ 2) ⊎ (result.status ≡ 70) }
     ensures unread { words_of (map string_bytes words.now) ≡ None → source.new ≡ source.old }
-    ensures words_line { result.status ≡ 2 → Wrote (K.written sink.old) (K.written sink.new) (Rose (K.faults sink.old) (K.faults sink.new)) words_line }
-    ensures input { result.status ≡ 66 → IsInputRefused (inputs_of (map string_bytes words.now)) (launch_of (map string_bytes words.now) (S.content source.old)) (Rose (S.faults source.old) (S.faults source.new))
-        (Wrote (K.written sink.old) (K.written sink.new) (Rose (K.faults sink.old) (K.faults sink.new))) }
-    ensures program { result.status ≡ 67 → IsProgramRefused (launch_of (map string_bytes words.now) (S.content source.old))
-        (Wrote (K.written sink.old) (K.written sink.new) (Rose (K.faults sink.old) (K.faults sink.new))) }
-    ensures tree { result.status ≡ 68 → IsTreeRefused (launch_of (map string_bytes words.now) (S.content source.old))
-        (Wrote (K.written sink.old) (K.written sink.new) (Rose (K.faults sink.old) (K.faults sink.new))) }
-    ensures launch_text { result.status ≡ 65 → IsTextRefused (launch_of (map string_bytes words.now) (S.content source.old))
-        (Wrote (K.written sink.old) (K.written sink.new) (Rose (K.faults sink.old) (K.faults sink.new))) }
-    ensures memory { result.status ≡ 70 → Wrote (K.written sink.old) (K.written sink.new) (Rose (K.faults sink.old) (K.faults sink.new)) memory_line
-        × IfSome result.kept (λ r. r.history ≢ []) }
-    ensures ended { (result.status ≡ 0) ⊎ (result.status ≡ 1) → IsSomeAnd result.kept (HasReported (asks_history (map string_bytes words.now)) (K.written sink.old) (K.written sink.new) result.status) }
-    ensures stalled { result.status ≡ 71 → IsSomeAnd result.kept (HasStalled (asks_history (map string_bytes words.now)) (K.written sink.old) (K.written sink.new)) }
-    ensures unwritten { result.status ≡ 69 → Rose (K.faults sink.old) (K.faults sink.new) × IsSomeAnd result.kept (HasFailed (asks_history (map string_bytes words.now)) (K.written sink.old) (K.written sink.new)) }
+    ensures input { result.status ≡ 66 → IsInputRefused (inputs_of (map string_bytes words.now)) (launch_of (map string_bytes words.now) (S.content source.old))
+        (Rose (S.faults source.old) (S.faults source.new)) (growth K.written K.faults sink.old sink.new) }
 
-    // What is kept: the headline, and what follows from it.
-    ensures headline { IfSome result.kept IsConfinedRecord }
-    ensures unwritten_stays { IfSome result.kept LeavesUnwritten }
-    ensures kept { IfSome result.kept (IsKept (words_of (map string_bytes words.now)) (launch_of (map string_bytes words.now) (S.content source.old))) }
-    ensures none_kept { IsSome result.kept → (result.status ≡ 0) ⊎ (result.status ≡ 1) ⊎ (result.status ≡ 69) ⊎ (result.status ≡ 70) ⊎ (result.status ≡ 71) }
-
-    // What is described is answered where no fault came.
-    ensures complete { ¬ Rose (S.faults source.old) (S.faults source.new)
-        → Completes (launch_of (map string_bytes words.now) (S.content source.old)) (Rose (K.faults sink.old) (K.faults sink.new)) result.status }
+    // What each other status says and what was written, what is kept, and what is answered if no fault came.
+    ensures answer { IsAnswer (OfWords (map string_bytes words.now) (S.content source.old)) (Rose (S.faults source.old) (S.faults source.new))
+        (record_report (asks_history (map string_bytes words.now))) (growth K.written K.faults sink.old sink.new) result }
 {
     finish(launch_and_run(rt, alloc, words, gate, source, sink))
 }

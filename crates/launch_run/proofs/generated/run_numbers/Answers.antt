@@ -11,5 +11,5 @@ returns-in_default-clause-end g c = inl (c.refused.ensures.end, c.refused.ensure
 
 pub returns-clause-end : goal.returns-clause-end
 returns-clause-end g c =
-    inr (run_of c.args.numbers c.in-Ok.source c.in-Ok.ensures (view c.settings_for-settings.result) c.settings_for-settings.ensures.settings _ _ _ c.run_settings.result
+    inr (run_of c.args.numbers c.in-Ok.source c.in-Ok.ensures (view c.settings_for-settings.result) c.settings_for-settings.ensures.settings _ c.run_settings.result
     c.run_settings.ensures.end)

@@ -4,7 +4,6 @@ use Rattle.launch_run.proofs.top.run_reported.Goals as goal
 
 pub returns-clause-end : goal.returns-clause-end
 returns-clause-end g c =
-    ends_reported c.args.launch (keeps_entries c.args.shown) (shown_text c.args.shown) (g.K.Sink.written c.args.sink.now) (g.K.Sink.written c.run_launched-end.new.sink)
-    (g.K.Sink.written c.report_end.new.sink) (g.K.Sink.faults c.args.sink.now) (g.K.Sink.faults c.run_launched-end.new.sink)
-    (g.K.Sink.faults c.report_end.new.sink) c.run_launched-end.ensures.faults_never_fall c.report_end.ensures.faults_never_fall
-    c.run_launched-end.result c.run_launched-end.ensures.end c.report_end.ensures.content
+    ends_reported c.args.launch (keeps_entries c.args.shown) (shown_text c.args.shown) g.K.Sink.written g.K.Sink.faults c.args.sink.now c.run_launched-end.new.sink
+    c.report_end.new.sink c.run_launched-end.ensures.faults_never_fall c.report_end.ensures.faults_never_fall c.run_launched-end.result c.run_launched-end.ensures.end
+    c.report_end.ensures.content
