@@ -1,5 +1,5 @@
 -- The place for the thread that a call may make is put in, and stays where the thread was made.
-use Rattle.std.proofs.Common.{◌≡◌, ℕ, Bool, true, false, Option, None, Some, IsSome, is_some, refl, sym, ap, subst, ◌∙◌}
+use Rattle.std.proofs.Common.{◌≡◌, ℕ, Bool, true, false, IsSome, is_some, refl, sym, ap, subst, ◌∙◌}
 use Rattle.std.specs.FinMap.{get, insert, remove}
 use Rattle.abi_types.specs.declared.call.Call.{Call}
 use Rattle.maps.specs.Maps.{get-insert-same, insert-remove, remove-inserted}

@@ -32,16 +32,14 @@ use Rattle.run_model.proofs.Births.{one_contains}
 use Rattle.run_model.proofs.Histories.{guest_turned, legal_more, world_more}
 use Rattle.run_model.proofs.Own.{child_did_nothing, child_has_thread}
 use Rattle.run_model.proofs.Worlds.{born_guest}
-use Rattle.shared_history.specs.Entries.{answered_call, entry_of, head_of}
+use Rattle.shared_history.specs.Entries.{answered_call, head_of}
 use Rattle.shared_history.specs.declared.entries.EntryHead.{EntryHead}
 use Rattle.shared_history.specs.declared.kept.Kept.{Kept}
-use Rattle.kernel_cell.specs.Acting.{Entered, GoesOn, HasForked, IsChild, IsForkedOn, KeepsBut, child_of}
+use Rattle.kernel_cell.specs.Acting.{GoesOn, HasForked, IsChild, IsForkedOn, KeepsBut}
 use Rattle.kernel_cell.specs.Asking.{AsksCall}
 use Rattle.kernel_cell.specs.Handing.{held_after}
 use Rattle.kernel_cell.specs.Places.{Threads}
 use Rattle.kernel_cell.specs.Recorded.{IsRecorded}
-use Rattle.kernel_cell.specs.declared.results.Asked.TheVariants as asked
-use Rattle.kernel_cell.specs.declared.results.Body.{Body}
 use Rattle.kernel_cell.specs.declared.results.Came.TheVariants as came
 use Rattle.kernel_cell.proofs.EntryEffects.{call_encoded, fork_lives, fork_replies}
 use Rattle.kernel_cell.proofs.RecordedSteps.{call_entered, call_fits, entered_is, goes_call, keeps_call, step_there, valid_there}

@@ -51,7 +51,7 @@ use Rattle.guest_process.specs.declared.room.NewThread.{NewThread}
 use Rattle.run_model.specs.Ends.{Stalled}
 use Rattle.run_model.specs.Legal.{FitsAct, Fits, IsRunnable}
 use Rattle.run_model.specs.Own.{is_idle, IsLiveIn}
-use Rattle.run_model.specs.World.{World, Guest, world, apply, acted, thread_at, turned, guest_of, registers_of, answered_guest, called_guest}
+use Rattle.run_model.specs.World.{World, Guest, world, acted, thread_at, turned, guest_of, registers_of, answered_guest, called_guest}
 use Rattle.run_model.proofs.Bounds.{early, short}
 use Rattle.run_model.proofs.Histories.{world_constants}
 use Rattle.run_model.proofs.ThreadLaws.{numbers_suffice}
@@ -70,7 +70,6 @@ use Rattle.kernel_cell.specs.Asking.{Answers, AsksCall, AsksEnd, AsksWake, HasNo
 use Rattle.kernel_cell.specs.Places.{Threads, with_made, without_place, HasPlace, IsPlaceFor}
 use Rattle.kernel_cell.specs.Recorded.{IsRecorded}
 use Rattle.kernel_cell.specs.declared.results.After.{After}
-use Rattle.kernel_cell.specs.declared.results.After.TheVariants as to
 use Rattle.kernel_cell.specs.declared.results.Asked.{Asked}
 use Rattle.kernel_cell.specs.declared.results.Asked.TheVariants as asked
 use Rattle.kernel_cell.specs.declared.results.Body.{Body}

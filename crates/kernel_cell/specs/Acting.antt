@@ -5,7 +5,7 @@
 --     IsActedOn, IsForkedOn, IsIdledOn      what comes of a call, a wake or an end, of a proc_fork, and of time, by the whole history
 --     Seen, IsActed, IsForked      the same by what a pass has seen of it
 --     Looked, AreTimes      a look, and the times that come with an answer
-use Rattle.std.specs.Prelude.{◌≡◌, ◌≢◌, ℕ, Bool, true, false, List, [], ◌∷◌, ◌++◌, Option, None, Some}
+use Rattle.std.specs.Prelude.{◌≡◌, ◌≢◌, ℕ, true, false, List, [], ◌∷◌, ◌++◌, Option, None, Some}
 use Rattle.abi_types.specs.declared.call.Call.{Call}
 use Rattle.run_types.specs.declared.history.Act.{Act}
 use Rattle.run_types.specs.declared.history.Act.TheVariants as act

@@ -2,7 +2,7 @@
 --     left_after_call, left_by_birth, left_after_wake      the turns that are left
 --     plain_call, plain_wake, plain_end, asked_tells      what contracts see after a call, a wake or an end from outside
 --     born_some, born_none, none_tells, child_tells      after a proc_fork, without a child and with one
-use Rattle.std.proofs.Common.{◌≡◌, ◌≢◌, ℕ, Bool, true, false, List, [], ◌∷◌, ◌++◌, ◌-◌, Option, None, Some, IsSome, if◌then◌else◌, refl, sym, ap, subst, ◌∙◌}
+use Rattle.std.proofs.Common.{◌≡◌, ◌≢◌, ℕ, Bool, true, false, List, [], ◌∷◌, ◌++◌, ◌-◌, Option, None, Some, if◌then◌else◌, refl, sym, ap, subst, ◌∙◌}
 use Rattle.std.specs.FinMap.{get, insert, remove}
 use Rattle.abi_types.specs.declared.reply.Answer.{Answer}
 use Rattle.abi_types.specs.declared.call.Call.{Call}
@@ -31,7 +31,7 @@ use Rattle.shared_history.specs.Passes.{IsSeen, Later, Passing}
 use Rattle.kernel_cell.specs.Acting.{Became, Entered, HasForked, IsActed, IsForkedOn, IsNotReady, MayCome, by_number, child_of, going_on}
 use Rattle.kernel_cell.specs.Acting as Acting
 use Rattle.kernel_cell.specs.Afterwards.{act_of}
-use Rattle.kernel_cell.specs.Asking.{Answers, Asks, HasNoChild, IsWake}
+use Rattle.kernel_cell.specs.Asking.{Answers, HasNoChild, IsWake}
 use Rattle.kernel_cell.specs.Places.{Threads, with_made}
 use Rattle.kernel_cell.specs.declared.results.After.{After}
 use Rattle.kernel_cell.specs.declared.results.After.TheVariants as to
@@ -48,7 +48,7 @@ use Rattle.kernel_cell.proofs.PassOutcomes.{own_entered}
 use Rattle.process_cell.specs.Phases.{alone, is_yield, phase_after, threads_after}
 use Rattle.process_cell.specs.Process.{Stands, standing_of}
 use Rattle.process_cell.specs.Standing.{Standing}
-use Rattle.process_cell.specs.Steps.{Becomes, Enters, EntersFork, IsAsked, IsForked, LivesOn, asks_way, born, running, waiting}
+use Rattle.process_cell.specs.Steps.{Becomes, Enters, EntersFork, IsAsked, IsForked, asks_way, born, running, waiting}
 use Rattle.process_cell.specs.declared.results.Phase.{Phase}
 use Rattle.process_cell.specs.declared.results.Phase.TheVariants as phase
 use Rattle.process_cell.proofs.Ties.{does_none, settled, stands_then}

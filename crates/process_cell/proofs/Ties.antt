@@ -3,7 +3,7 @@
 --     calls_there, forks_there, has_registers, has_registers_running, between, does, due_stands, due_runs, no_fork,
 --     asks_call, asks_fork, asks_wake, asks_end      what it asks the kernel for, and what is known of it then
 --     made_in, same_at, stands_at, stands_then, settled, has_place      the process at the history at which something was done
-use Rattle.std.proofs.Common.{◌≡◌, ◌≢◌, ℕ, ◌<◌, Bool, true, false, List, [], ◌∷◌, ◌++◌, Option, None, Some, IsSome, inl, inr, refl, sym, ap, subst, ◌∙◌}
+use Rattle.std.proofs.Common.{◌≡◌, ◌≢◌, ℕ, ◌<◌, List, [], ◌∷◌, ◌++◌, Option, None, Some, IsSome, inl, inr, refl, sym, ap, subst, ◌∙◌}
 use Rattle.std.proofs.lemmas.Bool.Decides.{eqb_tells}
 use Rattle.std.specs.FinMap.{FinMap, empty, get, insert, remove, get-empty}
 use Rattle.std.specs.Option.{option_map}
@@ -17,7 +17,7 @@ use Rattle.abi_types.specs.declared.thread.Thread.TheVariants.{Waits as Blocked}
 use Rattle.run_types.specs.declared.history.Act.{Act}
 use Rattle.run_types.specs.declared.history.Entry.{Entry}
 use Rattle.run_types.specs.declared.launch.Launch.{Launch}
-use Rattle.maps.specs.Maps.{get-insert-same, get-insert-other, get-remove-same, get-remove-other, same_around}
+use Rattle.maps.specs.Maps.{get-insert-same, get-insert-other, get-remove-same, get-remove-other}
 use Rattle.kernel_model.specs.Families.Locks.{called, given}
 use Rattle.kernel_model.specs.State.{State, thread_in, thread_of, threads_of}
 use Rattle.kernel_model.specs.Threads.{is_given, is_signalled, stays, IsMoved}

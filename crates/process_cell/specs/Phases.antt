@@ -1,5 +1,5 @@
 -- In which phase a process is after a step of a thread, and what its threads do then.
-use Rattle.std.specs.Prelude.{◌≡◌, ◌≢◌, ℕ, Bool, true, false, IsSome}
+use Rattle.std.specs.Prelude.{ℕ, Bool, true, false, IsSome}
 use Rattle.std.specs.FinMap.{empty, get, insert, remove}
 use Rattle.abi_types.specs.declared.call.Call.{Call}
 use Rattle.abi_types.specs.declared.call.Call.TheVariants.{ThreadYield}

@@ -60,12 +60,7 @@ impl<J: Naming> ThreadTicket<J> {
 pub enum Done<J: Naming> {
     /// Steps of a thread, of the last of which this came, and the ticket of the child that it made, if it made one; and what the kernel told
     /// at last, if it was asked.
-    Ran(
-        ThreadTicket<J>,
-        Came<After>,
-        Option<ThreadTicket<J>>,
-        Option<Times>,
-    ),
+    Ran(ThreadTicket<J>, Came<After>, Option<ThreadTicket<J>>, Option<Times>),
     /// It asked the kernel to let time go on, of which this came; and the run's moment then.
     Idled(Idled, u64),
 }

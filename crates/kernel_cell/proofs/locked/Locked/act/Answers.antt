@@ -1,8 +1,8 @@
-use Rattle.std.proofs.Common.{◌≡◌, List, refl, sym, ap, subst, ◌∙◌}
+use Rattle.std.proofs.Common.{List, sym, ap, subst, ◌∙◌}
 use Rattle.run_types.specs.declared.history.Act.{Act}
 use Rattle.run_types.specs.declared.history.Entry.{Entry}
 use Rattle.kernel_model.specs.State.{State}
-use Rattle.shared_history.specs.Passes.{IsSeen, Later, Passing, seen_of}
+use Rattle.shared_history.specs.Passes.{Later, Passing, seen_of}
 use Rattle.kernel_cell.specs.Acting.{Became, IsActedOn, MayCome}
 use Rattle.kernel_cell.specs.Recorded.{IsRecorded}
 use Rattle.kernel_cell.specs.declared.results.After.{After}

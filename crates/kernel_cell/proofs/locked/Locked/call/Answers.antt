@@ -1,5 +1,5 @@
 use Rattle.std.specs.Prelude.{is_ok}
-use Rattle.std.proofs.Common.{◌≡◌, ℕ, ◌<◌, List, ◌++◌, length, slice_index_or, IsSome, refl, sym, ap, subst, ◌∙◌, arith}
+use Rattle.std.proofs.Common.{◌++◌, IsSome, sym, ap, subst, ◌∙◌}
 use Rattle.std.specs.FinMap.{get}
 use Rattle.call_codec.specs.Arguments.{Encodes}
 use Rattle.call_codec.proofs.Puts.{may_map_for}
@@ -37,9 +37,10 @@ answer-requires-clause-thread g c =
 
 pub answer-requires-clause-encoded : goal.answer-requires-clause-encoded
 answer-requires-clause-encoded g c =
-    subst (λ (guest : Guest). Encodes guest.memory (registers_of guest c.args.tid) c.args.call) (sym c.in-Ok-make_room.ensures.without)
-    (c.args.body.now.guest.left,
-    call_encoded (world g.J.Naming.launch c.args.self.now.keeper.log) c.args.pid c.args.tid c.args.body.now.turns c.args.body.now.guest c.args.call c.requires.asks)
+    subst (λ (guest : Guest). Encodes guest.memory (registers_of guest c.args.tid) c.args.call) (sym c.in-Ok-make_room.ensures.without) (
+      c.args.body.now.guest.left,
+      call_encoded (world g.J.Naming.launch c.args.self.now.keeper.log) c.args.pid c.args.tid c.args.body.now.turns c.args.body.now.guest c.args.call c.requires.asks,
+    )
 
 pub answer-requires-clause-other : goal.answer-requires-clause-other
 answer-requires-clause-other g c =

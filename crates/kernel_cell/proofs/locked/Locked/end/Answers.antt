@@ -1,4 +1,4 @@
-use Rattle.std.proofs.Common.{[], ◌∷◌, ◌++◌, refl, sym, ap, subst, ◌∙◌}
+use Rattle.std.proofs.Common.{[], ◌∷◌, ◌++◌, sym, ap, subst, ◌∙◌}
 use Rattle.run_types.specs.declared.history.Entry.{Entry}
 use Rattle.run_model.specs.Legal.{Fits}
 use Rattle.run_model.specs.World.{world}

@@ -1,4 +1,4 @@
-use Rattle.std.proofs.Common.{◌≡◌, List, refl, sym, ap, subst, ◌∙◌}
+use Rattle.std.proofs.Common.{List, sym, ap, subst, ◌∙◌}
 use Rattle.run_types.specs.declared.history.Entry.{Entry}
 use Rattle.kernel_model.specs.State.{State}
 use Rattle.shared_history.specs.Passes.{IsSeen, Later, Passing, seen_of}

@@ -1,6 +1,6 @@
-use Rattle.std.proofs.Common.{◌≡◌, ◌∙◌, ℕ, ◌<◌, List, length, slice_index_or, refl, sym, ap, subst, arith}
+use Rattle.std.proofs.Common.{ap}
 use Rattle.shared_history.specs.declared.entries.EntryHead.{EntryHead}
-use Rattle.kernel_cell.proofs.RecordedSteps.{kernel_early, log_short, constants_early, covers, wake_can, wake_few, same_given, wake_fits, wake_recorded, wake_came, wake_none, wake_not}
+use Rattle.kernel_cell.proofs.RecordedSteps.{kernel_early, log_short, constants_early, covers, wake_can, wake_few, same_given, wake_fits, wake_recorded, wake_came}
 use Rattle.kernel_cell.proofs.locked.Locked.wake.Goals as goal
 
 pub given-given-requires : goal.given-given-requires

@@ -61,11 +61,13 @@ pub returns-clause-called : goal.returns-clause-called
 returns-clause-called g c =
     let v = c.self.inside in
     let tied = calls_there g.J.Naming.launch v.pass c.args.tid v.body v.phase c.args.self.now c.self.invariant.1 c.self.view_is c.requires in
-    inl (c.in-Ok.call,
-    subst (λ (result : Came After). IsAsked g.J.Naming.launch c.args.tid (asked.Calls c.in-Ok.call) c.args.self.now
-    (standing_of c.act-came.new.pass (record c.act-came.new.body { threads = c.settle-self-inside.new.threads }) c.settle-self-inside.result) result
-    c.answered.result.gives_way) (sym c.answered.ensures.came)
-    (asked_tells g.J.Naming.launch c.self.invariant.0 v.pass c.act-came.new.pass c.args.tid v.body c.act-came.new.body v.phase tied.0 (asked.Calls c.in-Ok.call)
-    c.act-came.result.0 c.answered.result.gives_way c.settle-self-inside.new.threads c.settle-self-inside.result c.args.self.now tied.1 (λ wakes. absurd wakes)
-    (plain_call c.in-Ok.call (no_fork c.in-Ok.call c.in_default-call.not-ProcFork)) (λ is. c.answered.ensures.gives (c.gives_way-yields.ensures ∙ is))
-    c.act-came.ensures.acted c.settle-self-inside.ensures.threads c.settle-self-inside.ensures.phase c.self.view_is))
+    inl (
+      c.in-Ok.call,
+      subst (λ (result : Came After). IsAsked g.J.Naming.launch c.args.tid (asked.Calls c.in-Ok.call) c.args.self.now
+          (standing_of c.act-came.new.pass (record c.act-came.new.body { threads = c.settle-self-inside.new.threads }) c.settle-self-inside.result) result
+          c.answered.result.gives_way) (sym c.answered.ensures.came)
+          (asked_tells g.J.Naming.launch c.self.invariant.0 v.pass c.act-came.new.pass c.args.tid v.body c.act-came.new.body v.phase tied.0 (asked.Calls c.in-Ok.call)
+          c.act-came.result.0 c.answered.result.gives_way c.settle-self-inside.new.threads c.settle-self-inside.result c.args.self.now tied.1 (λ wakes. absurd wakes)
+          (plain_call c.in-Ok.call (no_fork c.in-Ok.call c.in_default-call.not-ProcFork)) (λ is. c.answered.ensures.gives (c.gives_way-yields.ensures ∙ is))
+          c.act-came.ensures.acted c.settle-self-inside.ensures.threads c.settle-self-inside.ensures.phase c.self.view_is),
+    )
