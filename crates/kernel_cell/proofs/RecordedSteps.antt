@@ -9,7 +9,7 @@
 --     end_fits, end_recorded, end_came      an end from outside
 --     fits_jump, recorded_jump, appends_jump, busy_there, stalled_there      an idle jump
 use Rattle.std.proofs.Common.{◌≡◌, ◌≢◌, inl, inr, ◌+◌, ◌-◌, ◌^◌, ◌<◌, ◌≤◌, ℕ, Bool, true, false, List, [], ◌∷◌, ◌++◌, length, Contains, Option, None, Some, IsSome, IsTrue, ◌↔◌, refl, sym, ap, subst, ◌∙◌, arith}
-use Rattle.std.specs.Prelude.{Result, Ok, Err, OnErr, OnOk, is_ok}
+use Rattle.std.specs.Prelude.{Result, Ok, Err, IfSome, OnErr, OnOk, is_ok}
 use Rattle.std.proofs.lemmas.Bool.Decides.{eqb_tells}
 use Rattle.std.specs.FinMap.{get}
 use Rattle.abi_types.specs.declared.reply.Answer.{Answer}
@@ -195,13 +195,15 @@ module _ {launch : Launch} {all : Bool} {log : List Entry} {before : State} {con
   pub valid_there : IsValid w.state
   valid_there = world_is_valid launch log r.bounded.begins r.legal
 
-  -- the times that come with an answer
-  pub times_there : (p q t : ℕ) (h : List Entry) (times : Times) → times.moment ≡ before.clock → times.until ≡ waits_until (thread_of before p t) → h ≡ log
-      → p ≡ q → AreTimes launch h q t times
-  times_there p q t h times moment until seen same =
+  -- the times that come with an answer, if they do
+  pub times_there : (p q t : ℕ) (h : List Entry) (times : Option Times)
+      → IfSome times (λ told. (told.moment ≡ before.clock) × (told.until ≡ waits_until (thread_of before p t))) → h ≡ log
+      → p ≡ q → IfSome times (AreTimes launch h q t)
+  times_there p q t h None told seen same = tt
+  times_there p q t h (Some times) told seen same =
       subst (λ (x : List Entry × ℕ). AreTimes launch x.0 x.1 t times) (λ i. (sym seen i, same i)) (record {
-        moment = moment ∙ ap (λ (S : State). S.clock) r.state;
-        until = until ∙ ap (λ (S : State). waits_until (thread_of S p t)) r.state;
+        moment = told.0 ∙ ap (λ (S : State). S.clock) r.state;
+        until = told.1 ∙ ap (λ (S : State). waits_until (thread_of S p t)) r.state;
       })
 
   -- the number of a process's next thread

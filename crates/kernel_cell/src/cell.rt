@@ -1,5 +1,5 @@
 //! The kernel behind its lock, as threads share it, from the begin of a run to its book.
-ghost use Rattle.std.specs.Prelude.{◌≡◌, ◌↔◌, [], IfOk, IsTrue};
+ghost use Rattle.std.specs.Prelude.{◌≡◌, ◌↔◌, [], IfOk, IfSome, IsTrue};
 ghost use Rattle.call_codec.specs.Bounded.{IsBounded};
 ghost use Rattle.run_model.specs.Own.{IsLiveIn};
 ghost use Rattle.run_model.specs.World.{world};
@@ -152,10 +152,10 @@ impl<J: Naming> Cell<J> {
         body: &mut Body,
         tid: Tid,
         call: Call,
-    ) -> (Came<After>, Times)
+    ) -> (Came<After>, Option<Times>)
         requires { Asks (world J.launch pass.old.seen) pass.old.pid tid body.old (asked.Calls call) }
         ensures acted { IsActed J.launch pass.old tid body.old (asked.Calls call) body.new pass.new result.0 }
-        ensures times { AreTimes J.launch pass.new.seen pass.old.pid tid result.1 }
+        ensures times { IfSome result.1 (AreTimes J.launch pass.new.seen pass.old.pid tid) }
     {
         self.guarded
             .lock(rt)
@@ -172,11 +172,11 @@ impl<J: Naming> Cell<J> {
         body: &mut Body,
         tid: Tid,
         call: Call,
-    ) -> (Came<Option<(Pass<J>, Guest)>>, Times)
+    ) -> (Came<Option<(Pass<J>, Guest)>>, Option<Times>)
         requires asks { AsksCall (world J.launch pass.old.seen) pass.old.pid tid body.old.turns body.old.guest call }
         requires fork { IsFork call }
         ensures forked { IsForked J.launch pass.old tid body.old call body.new pass.new result.0 }
-        ensures times { AreTimes J.launch pass.new.seen pass.old.pid tid result.1 }
+        ensures times { IfSome result.1 (AreTimes J.launch pass.new.seen pass.old.pid tid) }
     {
         self.guarded
             .lock(rt)
@@ -192,10 +192,10 @@ impl<J: Naming> Cell<J> {
         pass: &mut Pass<J>,
         body: &mut Body,
         tid: Tid,
-    ) -> (Came<After>, Times)
+    ) -> (Came<After>, Option<Times>)
         requires { Asks (world J.launch pass.old.seen) pass.old.pid tid body.old asked.Wakes }
         ensures woken { IsActed J.launch pass.old tid body.old asked.Wakes body.new pass.new result.0 }
-        ensures times { AreTimes J.launch pass.new.seen pass.old.pid tid result.1 }
+        ensures times { IfSome result.1 (AreTimes J.launch pass.new.seen pass.old.pid tid) }
     {
         self.guarded
             .lock(rt)
@@ -211,10 +211,10 @@ impl<J: Naming> Cell<J> {
         body: &mut Body,
         tid: Tid,
         how: EndBy,
-    ) -> (Came<After>, Times)
+    ) -> (Came<After>, Option<Times>)
         requires { Asks (world J.launch pass.old.seen) pass.old.pid tid body.old (asked.Ends how) }
         ensures ended { IsActed J.launch pass.old tid body.old (asked.Ends how) body.new pass.new result.0 }
-        ensures times { AreTimes J.launch pass.new.seen pass.old.pid tid result.1 }
+        ensures times { IfSome result.1 (AreTimes J.launch pass.new.seen pass.old.pid tid) }
     {
         self.guarded
             .lock(rt)
@@ -227,10 +227,10 @@ impl<J: Naming> Cell<J> {
         self.guarded.lock(rt).locked.idle(&self.passes)
     }
 
-    /// Whether the pass's process is live.
-    pub fn look<R: Wait>(&self, rt: &R, pass: &mut Pass<J>) -> bool
+    /// Whether the pass's process is live, and the moment now.
+    pub fn look<R: Wait>(&self, rt: &R, pass: &mut Pass<J>) -> (bool, u64)
         ensures pass { Looked J.launch pass.old pass.new }
-        ensures live { IsTrue result ↔ IsLiveIn (world J.launch pass.new.seen) pass.old.pid }
+        ensures live { IsTrue result.0 ↔ IsLiveIn (world J.launch pass.new.seen) pass.old.pid }
     {
         self.guarded.lock(rt).locked.look(&self.passes, pass)
     }

@@ -1,6 +1,6 @@
 //! The kernel with its history: what threads ask for is done by the kernel, and becomes an entry. Each call here takes a process's pass in,
 //! does what it does, and hands the pass out again.
-ghost use Rattle.std.specs.Prelude.{◌≡◌, ◌↔◌, [], ◌∷◌, IsTrue};
+ghost use Rattle.std.specs.Prelude.{◌≡◌, ◌↔◌, [], ◌∷◌, IfSome, IsTrue};
 ghost use Rattle.guest_process.specs.Children.{IsFork};
 ghost use Rattle.kernel_core.specs.Waiting.{waits_until};
 ghost use Rattle.kernel_model.specs.State.{thread_of};
@@ -36,17 +36,30 @@ pub struct Locked<J: Naming> {
     pub alloc: Global,
 }
 
-// The moment now, until when a thread waits, and the threads to be looked at again, which none is then.
-fn times(kernel: &mut Kernel, pid: Pid, tid: Tid) -> Times
-    ensures moment { result.moment ≡ kernel.old.clock }
-    ensures until { result.until ≡ waits_until (thread_of kernel.old pid tid) }
+// Whether a thread that asks for this keeps its worker, where it goes on.
+fn keeps_worker(what: &Asked) -> bool {
+    matches!(what, Asked::Calls(call) if !matches!(call, Call::ThreadYield))
+}
+
+// Whether a thread goes on of which this came.
+fn goes_on(came: &Came<After>) -> bool {
+    matches!(came, Came::Done(After::Runs))
+}
+
+// The moment now, until when a thread waits, and the threads to be looked at again, which none is then. `None` where the thread keeps its
+// worker, and where none is to be looked at.
+fn times(kernel: &mut Kernel, pid: Pid, tid: Tid, stays: bool) -> Option<Times>
+    ensures told { IfSome result (λ times. (times.moment ≡ kernel.old.clock) × (times.until ≡ waits_until (thread_of kernel.old pid tid))) }
     ensures same { kernel.new ≡ kernel.old }
 {
-    Times {
+    if stays && !kernel.has_wakes() {
+        return None;
+    }
+    Some(Times {
         moment: kernel.moment(),
         until: kernel.until(pid, tid),
         wakes: kernel.take_wakes(),
-    }
+    })
 }
 
 // The pass and the guest of the child, if there is one, whose pass the keeper hands out.
@@ -80,21 +93,23 @@ impl<J: Naming> Locked<J> {
         body: &mut Body,
         tid: Tid,
         what: Asked,
-    ) -> (Came<After>, Times)
+    ) -> (Came<After>, Option<Times>)
         requires recorded { IsRecorded J.launch J.keeps_all self.old.keeper.log self.old.kernel self.old.constants self.old.kept }
         requires asks { Asks (world J.launch pass.old.seen) pass.old.pid tid body.old what }
         ensures recorded { IsRecorded J.launch J.keeps_all self.new.keeper.log self.new.kernel self.new.constants self.new.kept }
         ensures pass { IsActed J.launch pass.old tid body.old what body.new pass.new result.0 }
         ensures history { IsActedOn J.launch self.old.keeper.log pass.old.pid tid body.old what body.new self.new.keeper.log result.0 }
         ensures seen { pass.new.seen ≡ self.new.keeper.log }
-        ensures times { AreTimes J.launch pass.new.seen pass.old.pid tid result.1 }
+        ensures times { IfSome result.1 (AreTimes J.launch pass.new.seen pass.old.pid tid) }
     {
         let pid = pass.pid;
         self.keeper
             .take_in(passes, Pass::lent(pid, &mut pass.badge));
+        let keeps = keeps_worker(&what);
         let came = self.enter(passes, pid, tid, body, what);
         *pass = self.keeper.hand_out(passes, pid);
-        (came, times(&mut self.kernel, pid, tid))
+        let stays = keeps && goes_on(&came);
+        (came, times(&mut self.kernel, pid, tid, stays))
     }
 
     // The same, while the keeper holds the process. The room for the entry is taken before.
@@ -237,14 +252,14 @@ impl<J: Naming> Locked<J> {
         body: &mut Body,
         tid: Tid,
         call: Call,
-    ) -> (Came<Option<(Pass<J>, Guest)>>, Times)
+    ) -> (Came<Option<(Pass<J>, Guest)>>, Option<Times>)
         requires recorded { IsRecorded J.launch J.keeps_all self.old.keeper.log self.old.kernel self.old.constants self.old.kept }
         requires asks { AsksCall (world J.launch pass.old.seen) pass.old.pid tid body.old.turns body.old.guest call }
         requires fork { IsFork call }
         ensures recorded { IsRecorded J.launch J.keeps_all self.new.keeper.log self.new.kernel self.new.constants self.new.kept }
         ensures pass { IsForked J.launch pass.old tid body.old call body.new pass.new result.0 }
         ensures seen { pass.new.seen ≡ self.new.keeper.log }
-        ensures times { AreTimes J.launch pass.new.seen pass.old.pid tid result.1 }
+        ensures times { IfSome result.1 (AreTimes J.launch pass.new.seen pass.old.pid tid) }
     {
         let pid = pass.pid;
         self.keeper
@@ -252,7 +267,7 @@ impl<J: Naming> Locked<J> {
         let forked = self.make_child(passes, pid, tid, body, call);
         let child = with_pass(&mut self.keeper, passes, forked);
         *pass = self.keeper.hand_out(passes, pid);
-        (child, times(&mut self.kernel, pid, tid))
+        (child, times(&mut self.kernel, pid, tid, false))
     }
 
     // The same, while the keeper holds the process. The child's guest is made before, where there may be a child, since the call's entry
@@ -323,12 +338,12 @@ impl<J: Naming> Locked<J> {
         (self.jump(passes), self.kernel.moment())
     }
 
-    /// Whether the pass's process is live.
-    pub fn look(&mut self, passes: &Passes<J>, pass: &mut Pass<J>) -> bool
+    /// Whether the pass's process is live, and the moment now.
+    pub fn look(&mut self, passes: &Passes<J>, pass: &mut Pass<J>) -> (bool, u64)
         requires recorded { IsRecorded J.launch J.keeps_all self.old.keeper.log self.old.kernel self.old.constants self.old.kept }
         ensures recorded { IsRecorded J.launch J.keeps_all self.new.keeper.log self.new.kernel self.new.constants self.new.kept }
         ensures pass { Looked J.launch pass.old pass.new }
-        ensures live { IsTrue result ↔ IsLiveIn (world J.launch pass.new.seen) pass.old.pid }
+        ensures live { IsTrue result.0 ↔ IsLiveIn (world J.launch pass.new.seen) pass.old.pid }
         ensures history { self.new.keeper.log ≡ self.old.keeper.log }
         ensures seen { pass.new.seen ≡ self.new.keeper.log }
     {
@@ -336,7 +351,7 @@ impl<J: Naming> Locked<J> {
         self.keeper
             .take_in(passes, Pass::lent(pid, &mut pass.badge));
         *pass = self.keeper.hand_out(passes, pid);
-        self.kernel.live(pid)
+        (self.kernel.live(pid), self.kernel.moment())
     }
 
     /// Takes back the pass of a process that needs it no more.

@@ -15,7 +15,7 @@ use crate::results::{
 use crate::worker::Worker;
 use abi_types::{Call, Pid, Signal, Tid, TidList};
 use guest_process::{FIRST_THREAD, Guest};
-use kernel_cell::{After, Body, Came, Doing, EndBy, Naming, Pass};
+use kernel_cell::{After, Body, Came, Doing, EndBy, Naming, Pass, Times};
 use maps::NumMap;
 use run_types::Launch;
 use rv_interp::TurnEnd;
@@ -118,7 +118,12 @@ impl<J: Naming> Process<J> {
 
     /// The call at which the last turn, of this thread, ended: the kernel answers it, and it is an entry of the history. A proc_fork isn't
     /// made by it: the thread stands at it then.
-    pub fn call<R: Wait, G: Gate>(&mut self, worker: &Worker<'_, J, R, G>, tid: Tid) -> Did
+    pub fn call<R: Wait, G: Gate>(
+        &mut self,
+        worker: &Worker<'_, J, R, G>,
+        told: &mut Option<Times>,
+        tid: Tid,
+    ) -> Did
         requires { self.old.phase ≡ phase.Calls tid }
         ensures same { self.new.pid ≡ self.old.pid }
         ensures called { IsCalled J.launch tid self.old self.new result.came result.gives_way }
@@ -136,7 +141,7 @@ impl<J: Naming> Process<J> {
             .cell
             .act(worker.rt, &mut self.pass, &mut self.body, tid, call);
         self.phase = settle(&mut self.body.threads, tid, &came);
-        Did::answered(came, yields, times)
+        Did::answered(came, yields, times, told)
     }
 
     // The proc_fork at which the last turn, of this thread, ended, and the child, where one was made. What the child's thread does is noted
@@ -144,6 +149,7 @@ impl<J: Naming> Process<J> {
     fn make_child<R: Wait, G: Gate>(
         &mut self,
         worker: &Worker<'_, J, R, G>,
+        told: &mut Option<Times>,
         tid: Tid,
     ) -> (Did, Option<Process<J>>)
         requires { self.old.phase ≡ phase.Forks tid }
@@ -162,7 +168,7 @@ impl<J: Naming> Process<J> {
         let came = going_on(&forked);
         self.phase = settle(&mut self.body.threads, tid, &came);
         let Some((pass, guest)) = born(forked) else {
-            return (Did::answered(came, false, times), None);
+            return (Did::answered(came, false, times, told), None);
         };
         let child = Process {
             body: Body {
@@ -173,7 +179,7 @@ impl<J: Naming> Process<J> {
             phase: Phase::Lives,
             pass,
         };
-        (Did::answered(came, true, times), Some(child))
+        (Did::answered(came, true, times, told), Some(child))
     }
 
     /// The proc_fork at which the last turn, of this thread, ended: the kernel answers it, and it is an entry of the history. With it comes
@@ -181,6 +187,7 @@ impl<J: Naming> Process<J> {
     pub fn fork<R: Wait, G: Gate>(
         &mut self,
         worker: &Worker<'_, J, R, G>,
+        told: &mut Option<Times>,
         tid: Tid,
     ) -> (Did, Option<Process<J>>)
         requires { self.old.phase ≡ phase.Forks tid }
@@ -190,14 +197,19 @@ impl<J: Naming> Process<J> {
         worker
             .gate
             .before(worker.number, self.pid(), tid, self.left());
-        let (did, child) = self.make_child(worker, tid);
+        let (did, child) = self.make_child(worker, told, tid);
         worker.gate.after(worker.number, self.pid(), tid);
         (did, child)
     }
 
     /// The wake of a thread, which waits in a call: where it is ready, its call is answered, and that is an entry of the history, after which
     /// it gives way; or it has left its condition variable and waits on, which is an entry too. Else the process stays as it is.
-    pub fn finish<R: Wait, G: Gate>(&mut self, worker: &Worker<'_, J, R, G>, tid: Tid) -> Did
+    pub fn finish<R: Wait, G: Gate>(
+        &mut self,
+        worker: &Worker<'_, J, R, G>,
+        told: &mut Option<Times>,
+        tid: Tid,
+    ) -> Did
         requires { WaitsIn tid self.old }
         ensures same { self.new.pid ≡ self.old.pid }
         ensures finished { IsFinished J.launch tid self.old self.new result.came result.gives_way }
@@ -206,7 +218,7 @@ impl<J: Naming> Process<J> {
             .cell
             .wake(worker.rt, &mut self.pass, &mut self.body, tid);
         self.phase = settle(&mut self.body.threads, tid, &came);
-        Did::answered(came, true, times)
+        Did::answered(came, true, times, told)
     }
 
     // Its end from outside, by a thread of it, which is an entry of the history.
@@ -220,13 +232,14 @@ impl<J: Naming> Process<J> {
             .cell
             .end(worker.rt, &mut self.pass, &mut self.body, tid, how);
         self.phase = settle(&mut self.body.threads, tid, &came);
-        Did::answered(came, false, times)
+        Did::answered(came, false, times, told)
     }
 
     /// The trap by which the last turn, of this thread, ended: it ends the process with all its threads.
     pub fn trap<R: Wait, G: Gate>(
         &mut self,
         worker: &Worker<'_, J, R, G>,
+        told: &mut Option<Times>,
         tid: Tid,
         signal: Signal,
     ) -> Did
@@ -235,42 +248,57 @@ impl<J: Naming> Process<J> {
         ensures left { self.new.left ≡ self.old.left }
         ensures ended { IsEnded J.launch (end_by.Trap signal) tid self.old self.new result.came result.gives_way }
     {
-        self.end(worker, tid, EndBy::Trap(signal))
+        self.end(worker, told, tid, EndBy::Trap(signal))
     }
 
     /// The end of a process that has no turn left for a thread of it that takes turns. Whether others wait doesn't matter.
-    pub fn expire<R: Wait, G: Gate>(&mut self, worker: &Worker<'_, J, R, G>, tid: Tid) -> Did
+    pub fn expire<R: Wait, G: Gate>(
+        &mut self,
+        worker: &Worker<'_, J, R, G>,
+        told: &mut Option<Times>,
+        tid: Tid,
+    ) -> Did
         requires runs { RunsIn tid self.old }
         requires left { self.old.left ≡ 0 }
         ensures same { self.new.pid ≡ self.old.pid }
         ensures left { self.new.left ≡ self.old.left }
         ensures ended { IsEnded J.launch end_by.Expire tid self.old self.new result.came result.gives_way }
     {
-        self.end(worker, tid, EndBy::Expire)
+        self.end(worker, told, tid, EndBy::Expire)
     }
 
     // What a thread does that is to take no turn now: its last turn's call or trap, its wake, or its process's end.
-    fn enter<R: Wait, G: Gate>(&mut self, worker: &Worker<'_, J, R, G>, tid: Tid) -> Did
+    fn enter<R: Wait, G: Gate>(
+        &mut self,
+        worker: &Worker<'_, J, R, G>,
+        told: &mut Option<Times>,
+        tid: Tid,
+    ) -> Did
         requires { RunsIn tid self.old → self.old.left ≡ 0 }
         ensures same { self.new.pid ≡ self.old.pid }
         ensures stepped { IsStepped J.launch tid self.old self.new result.came result.gives_way }
     {
         match self.phase() {
             Phase::Lives => match self.doing(tid) {
-                Some(Doing::Runs) => self.expire(worker, tid),
-                Some(Doing::Waits) => self.finish(worker, tid),
+                Some(Doing::Runs) => self.expire(worker, told, tid),
+                Some(Doing::Waits) => self.finish(worker, told, tid),
                 None => Did::unasked(Came::Gone),
             },
-            Phase::Calls(last) => self.call(worker, last),
+            Phase::Calls(last) => self.call(worker, told, last),
             Phase::Forks(_) => Did::unasked(Came::Done(After::Runs)),
-            Phase::Traps(last, signal) => self.trap(worker, last, signal),
+            Phase::Traps(last, signal) => self.trap(worker, told, last, signal),
             Phase::Gone => Did::unasked(Came::Gone),
             Phase::Lost => Did::unasked(Came::NoMemory),
         }
     }
 
     // The same, at the gate.
-    fn pass_gate<R: Wait, G: Gate>(&mut self, worker: &Worker<'_, J, R, G>, tid: Tid) -> Did
+    fn pass_gate<R: Wait, G: Gate>(
+        &mut self,
+        worker: &Worker<'_, J, R, G>,
+        told: &mut Option<Times>,
+        tid: Tid,
+    ) -> Did
         requires { RunsIn tid self.old → self.old.left ≡ 0 }
         ensures same { self.new.pid ≡ self.old.pid }
         ensures stepped { IsStepped J.launch tid self.old self.new result.came result.gives_way }
@@ -278,13 +306,18 @@ impl<J: Naming> Process<J> {
         worker
             .gate
             .before(worker.number, self.pid(), tid, self.left());
-        let did = self.enter(worker, tid);
+        let did = self.enter(worker, told, tid);
         worker.gate.after(worker.number, self.pid(), tid);
         did
     }
 
     // A turn of a thread, and the call or the trap by which it ended.
-    fn run<R: Wait, G: Gate>(&mut self, worker: &Worker<'_, J, R, G>, tid: Tid) -> Did
+    fn run<R: Wait, G: Gate>(
+        &mut self,
+        worker: &Worker<'_, J, R, G>,
+        told: &mut Option<Times>,
+        tid: Tid,
+    ) -> Did
         requires runs { RunsIn tid self.old }
         requires left { 0 < self.old.left }
         ensures same { self.new.pid ≡ self.old.pid }
@@ -293,15 +326,20 @@ impl<J: Naming> Process<J> {
         worker.gate.turning(worker.number, self.pid(), tid);
         match self.turn(tid) {
             Ok(TurnEnd::Quantum) => Did::unasked(Came::Done(After::Runs)),
-            Ok(TurnEnd::Ecall) => self.pass_gate(worker, tid),
-            Ok(TurnEnd::Trap(_)) => self.pass_gate(worker, tid),
+            Ok(TurnEnd::Ecall) => self.pass_gate(worker, told, tid),
+            Ok(TurnEnd::Trap(_)) => self.pass_gate(worker, told, tid),
             Err(_) => Did::unasked(Came::NoMemory),
         }
     }
 
     /// The next step of a thread: a turn, with the call or the trap by which it ended; or its wake, where it waits; or its process's end,
     /// where no turn is left. The gate is passed before it and, but for a turn, after it.
-    pub fn step<R: Wait, G: Gate>(&mut self, worker: &Worker<'_, J, R, G>, tid: Tid) -> Did
+    pub fn step<R: Wait, G: Gate>(
+        &mut self,
+        worker: &Worker<'_, J, R, G>,
+        told: &mut Option<Times>,
+        tid: Tid,
+    ) -> Did
         ensures same { self.new.pid ≡ self.old.pid }
         ensures stepped { IsStepped J.launch tid self.old self.new result.came result.gives_way }
     {
@@ -309,28 +347,30 @@ impl<J: Naming> Process<J> {
             Phase::Lives => match self.doing(tid) {
                 Some(Doing::Runs) => {
                     if self.left() > 0 {
-                        self.run(worker, tid)
+                        self.run(worker, told, tid)
                     } else {
-                        self.pass_gate(worker, tid)
+                        self.pass_gate(worker, told, tid)
                     }
                 }
-                Some(Doing::Waits) => self.pass_gate(worker, tid),
+                Some(Doing::Waits) => self.pass_gate(worker, told, tid),
                 None => Did::unasked(Came::Gone),
             },
-            Phase::Calls(_) | Phase::Traps(..) => self.pass_gate(worker, tid),
+            Phase::Calls(_) | Phase::Traps(..) => self.pass_gate(worker, told, tid),
             Phase::Forks(_) => Did::unasked(Came::Done(After::Runs)),
             Phase::Gone => Did::unasked(Came::Gone),
             Phase::Lost => Did::unasked(Came::NoMemory),
         }
     }
 
-    /// Looks whether others have ended the process, where it is between two steps.
-    pub fn look<R: Wait, G: Gate>(&mut self, worker: &Worker<'_, J, R, G>)
+    /// Looks whether others have ended the process, where it is between two steps, and gives the moment then.
+    pub fn look<R: Wait, G: Gate>(&mut self, worker: &Worker<'_, J, R, G>) -> u64
         ensures { IsLooked self.old self.new }
     {
         if let Phase::Lives = self.phase {
-            let lives = worker.cell.look(worker.rt, &mut self.pass);
+            let (lives, moment) = worker.cell.look(worker.rt, &mut self.pass);
             self.phase = if lives { Phase::Lives } else { Phase::Gone };
+            return moment;
         }
+        0
     }
 }

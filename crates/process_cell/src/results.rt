@@ -30,14 +30,12 @@ pub enum Phase {
 }
 
 /// What came of a step of a thread.
-#[derive(Drop)]
+#[derive(Clone, Copy)]
 pub struct Did {
     /// What became of the thread. It is gone also where it had ended before.
     pub came: Came<After>,
     /// Whether it gives way to others, where it goes on.
     pub gives_way: bool,
-    /// What the kernel told with its answer, where it was asked.
-    pub times: Option<Times>,
 }
 
 impl Did {
@@ -49,19 +47,28 @@ impl Did {
         Did {
             came,
             gives_way: false,
-            times: None,
         }
     }
 
-    /// This, with what the kernel told. The thread gives way where it is to, and where others are to be looked at again.
-    pub(crate) fn answered(came: Came<After>, gives_way: bool, times: Times) -> Did
+    /// This, with what the kernel told, if it told more than that the thread goes on. The thread gives way where it is to, and where others
+    /// are to be looked at again.
+    pub(crate) fn answered(
+        came: Came<After>,
+        gives_way: bool,
+        times: Option<Times>,
+        told: &mut Option<Times>,
+    ) -> Did
         ensures came { result.came ≡ came }
         ensures gives { gives_way ≡ true → result.gives_way ≡ true }
     {
+        let Some(times) = times else {
+            return Did { came, gives_way };
+        };
+        let others = !times.wakes.is_empty();
+        *told = Some(times);
         Did {
             came,
-            gives_way: gives_way || !times.wakes.is_empty(),
-            times: Some(times),
+            gives_way: gives_way || others,
         }
     }
 

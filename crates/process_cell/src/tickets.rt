@@ -55,12 +55,24 @@ impl<J: Naming> ThreadTicket<J> {
     }
 }
 
+/// What came of steps of a thread.
+#[derive(Drop)]
+pub struct Ran<J: Naming> {
+    /// What became of the thread by the last one.
+    pub came: Came<After>,
+    /// The ticket of the child that it made, if it made one.
+    pub child: Option<ThreadTicket<J>>,
+    /// What the kernel told with its answer, if it told more than that the thread goes on.
+    pub times: Option<Times>,
+    /// The moment, in nanoseconds since the run began, at which the process was looked at, or 0 where it wasn't.
+    pub looked: u64,
+}
+
 /// What a worker did.
 #[derive(Drop)]
 pub enum Done<J: Naming> {
-    /// Steps of a thread, of the last of which this came, and the ticket of the child that it made, if it made one; and what the kernel told
-    /// at last, if it was asked.
-    Ran(ThreadTicket<J>, Came<After>, Option<ThreadTicket<J>>, Option<Times>),
+    /// Steps of a ticket's thread.
+    Ran(ThreadTicket<J>, Ran<J>),
     /// It asked the kernel to let time go on, of which this came; and the run's moment then.
     Idled(Idled, u64),
 }
@@ -69,8 +81,14 @@ impl<J: Naming> Done<J> {
     /// Tells the board.
     pub fn tell(self, board: &mut Board<ThreadTicket<J>>) {
         match self {
-            Done::Ran(ticket, came, child, times) => {
-                let (until, moment) = tell_times(&times, board);
+            Done::Ran(ticket, ran) => {
+                let Ran {
+                    came,
+                    child,
+                    times,
+                    looked,
+                } = ran;
+                let (until, moment) = tell_times(&times, looked, board);
                 board.take_back(ticket, back(&came, until), child, moment);
             }
             Done::Idled(idled, moment) => board.take_passed(passed(idled, moment)),
@@ -78,10 +96,10 @@ impl<J: Naming> Done<J> {
     }
 }
 
-// Tells the board whom to look at again. Until when the thread waits, and the moment: where the kernel told none, no thread's deadline has come
-// since the last one.
+// Tells the board whom to look at again. Until when the thread waits, and the moment, which is that of the look where the kernel told none.
 fn tell_times<J: Naming>(
     times: &Option<Times>,
+    looked: u64,
     board: &mut Board<ThreadTicket<J>>,
 ) -> (Option<u64>, u64) {
     match times {
@@ -89,7 +107,7 @@ fn tell_times<J: Naming>(
             tell_wakes(&times.wakes, board);
             (times.until, times.moment)
         }
-        None => (None, 0),
+        None => (None, looked),
     }
 }
 

@@ -3,7 +3,7 @@
 use crate::gate::Gate;
 use crate::process::Process;
 use crate::results::{Did, Phase};
-use crate::tickets::{Done, ThreadTicket};
+use crate::tickets::{Done, Ran, ThreadTicket};
 use crate::worker::Worker;
 use abi_types::Tid;
 use guest_process::FIRST_THREAD;
@@ -46,23 +46,20 @@ impl<J: Naming> Workplace<J> {
     }
 }
 
-// What came of steps of a thread, with the ticket of the child that the last one made, and what the kernel told at last.
-#[derive(Drop)]
-struct Ran<J: Naming> {
-    came: Came<After>,
-    child: Option<ThreadTicket<J>>,
-    times: Option<Times>,
-}
-
 impl<J: Naming, R: Wait, G: Gate> Worker<'_, J, R, G> {
     // The next step of a process's thread; where it stands at a proc_fork then, that too, with the ticket of the child, if there is one. Where
     // memory runs out for the ticket the child is lost, and with it the run.
-    fn step(&self, process: &mut Process<J>, tid: Tid) -> (Did, Option<ThreadTicket<J>>) {
-        let did = process.step(self, tid);
+    fn step(
+        &self,
+        process: &mut Process<J>,
+        told: &mut Option<Times>,
+        tid: Tid,
+    ) -> (Did, Option<ThreadTicket<J>>) {
+        let did = process.step(self, told, tid);
         let Phase::Forks(forker) = process.phase() else {
             return (did, None);
         };
-        let (did, child) = process.fork(self, forker);
+        let (did, child) = process.fork(self, told, forker);
         let Some(child) = child else {
             return (did, None);
         };
@@ -72,29 +69,23 @@ impl<J: Naming, R: Wait, G: Gate> Worker<'_, J, R, G> {
         }
     }
 
-    // Steps of a ticket's thread, under the memory lock of its process, until it gives way to others or can't go on. Where the kernel wasn't
-    // asked in any of them, it is asked whether others have ended the process.
+    // Steps of a ticket's thread, under the memory lock of its process, until it gives way to others or can't go on, or until others are to
+    // have their turn. Then the process is looked at, which others may have ended.
     fn run(&self, ticket: &ThreadTicket<J>) -> Ran<J> {
         let mut process = ticket.process.lock(self.rt);
-        let mut last = None;
+        let mut told = None;
         for _ in 0..STEPS {
-            let (did, child) = self.step(&mut process, ticket.tid());
-            let goes_on = did.goes_on();
-            let Did { came, times, .. } = did;
-            if times.is_some() {
-                last = times;
-            }
-            if !goes_on {
+            let (did, child) = self.step(&mut process, &mut told, ticket.tid());
+            if !did.goes_on() {
                 return Ran {
-                    came,
+                    came: did.came,
                     child,
-                    times: last,
+                    times: told,
+                    looked: 0,
                 };
             }
         }
-        if last.is_none() {
-            process.look(self);
-        }
+        let looked = process.look(self);
         let came = match process.phase() {
             Phase::Gone => Came::Gone,
             _ => Came::Done(After::Runs),
@@ -102,7 +93,8 @@ impl<J: Naming, R: Wait, G: Gate> Worker<'_, J, R, G> {
         Ran {
             came,
             child: None,
-            times: last,
+            times: None,
+            looked,
         }
     }
 
@@ -113,7 +105,7 @@ impl<J: Naming, R: Wait, G: Gate> Worker<'_, J, R, G> {
             done = match workplace.next(self.rt, done) {
                 Task::Run(ticket) => {
                     let ran = self.run(&ticket);
-                    Some(Done::Ran(ticket, ran.came, ran.child, ran.times))
+                    Some(Done::Ran(ticket, ran))
                 }
                 Task::Idle => {
                     let (idled, moment) = self.cell.idle(self.rt);

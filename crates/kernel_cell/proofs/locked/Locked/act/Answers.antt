@@ -75,4 +75,4 @@ returns-clause-seen g c = ap (λ v. v.seen) (c.drop.view_is ∙ c.hand_out.ensur
 pub returns-clause-times : goal.returns-clause-times
 returns-clause-times g c =
     times_there c.enter-came.ensures.recorded c.pass.inside.pid c.args.pass.now.pid c.args.tid (seen_of c.drop.inside.badge.views) c.times.result
-    c.times.ensures.moment c.times.ensures.until (ap (λ v. v.seen) (c.drop.view_is ∙ c.hand_out.ensures.pass)) (ap (λ v. v.pid) c.pass.view_is)
+    c.times.ensures.told (ap (λ v. v.seen) (c.drop.view_is ∙ c.hand_out.ensures.pass)) (ap (λ v. v.pid) c.pass.view_is)

@@ -87,5 +87,5 @@ returns-clause-seen g c = ap (λ v. v.seen) (c.drop.view_is ∙ c.hand_out.ensur
 pub returns-clause-times : goal.returns-clause-times
 returns-clause-times g c =
     times_there c.make_child-forked.ensures.recorded c.pass.inside.pid c.args.pass.now.pid c.args.tid (seen_of c.drop.inside.badge.views) c.times.result
-    c.times.ensures.moment c.times.ensures.until
+    c.times.ensures.told
     (ap (λ v. v.seen) (c.drop.view_is ∙ c.hand_out.ensures.pass) ∙ ap (λ k. k.log) c.with_pass-child.ensures.keeper) (ap (λ v. v.pid) c.pass.view_is)
