@@ -222,7 +222,13 @@ impl<J: Naming> Process<J> {
     }
 
     // Its end from outside, by a thread of it, which is an entry of the history.
-    fn end<R: Wait, G: Gate>(&mut self, worker: &Worker<'_, J, R, G>, tid: Tid, how: EndBy) -> Did
+    fn end<R: Wait, G: Gate>(
+        &mut self,
+        worker: &Worker<'_, J, R, G>,
+        told: &mut Option<Times>,
+        tid: Tid,
+        how: EndBy,
+    ) -> Did
         requires { IsDue how tid self.old }
         ensures same { self.new.pid ≡ self.old.pid }
         ensures left { self.new.left ≡ self.old.left }
