@@ -9,7 +9,6 @@ use Rattle.run_types.specs.declared.history.Entry.{Entry}
 use Rattle.run_types.specs.declared.launch.Launch.{Launch}
 use Rattle.kernel_model.specs.Ends.{NoneLive}
 use Rattle.kernel_model.specs.State.{State}
-use Rattle.run_model.specs.Ends.{Stalled}
 use Rattle.run_model.specs.Legal.{IsRunnable}
 use Rattle.run_model.specs.Own.{IsLiveIn}
 use Rattle.run_model.specs.World.{World, world}

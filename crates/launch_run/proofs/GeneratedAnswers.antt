@@ -5,7 +5,7 @@ use Rattle.input_output.specs.Source.{InputContent, Unknown, Rose}
 use Rattle.command_line.specs.declared.generating.GenerateSettings.{GenerateSettings}
 use Rattle.launch_reading.specs.Refusal.{too_long_line}
 use Rattle.launch_reading.specs.declared.refusal.LaunchRefusal.TheVariants.{Words, Input, TooLong, Program, Tree, LaunchText, Memory}
-use Rattle.book_report.specs.Growth.{Growth, Wrote}
+use Rattle.book_report.specs.Growth.{Growth}
 use Rattle.book_report.specs.Shown.{record_summary}
 use Rattle.book_report.specs.declared.ends.RunEnd.TheVariants.{Reported, StallReported, Unwritten, NotBegun, Lacking}
 use Rattle.launch_run.specs.Answer.{IsAnswer}

@@ -1,9 +1,9 @@
 -- What is described by what is generated: no input is refused.
-use Rattle.std.proofs.Common.{◌≡◌, ◌≤◌, ◌+◌, ◌^◌, ℕ, List, [], false, cond, length, nat_lt, inl, inr, refl, ap, subst, ◌∙◌, arith, codes}
+use Rattle.std.proofs.Common.{◌≡◌, ◌≤◌, ℕ, List, [], false, cond, length, nat_lt, inl, inr, ap, subst, ◌∙◌, arith, codes}
 use Rattle.std.specs.Prelude.{Option, None, Some, Result, Ok, Err, IfOk, OnOk}
 use Rattle.std.proofs.lemmas.Bool.Decides.{nat_tests}
 use Rattle.input_output.specs.Memory.{content_steadily}
-use Rattle.input_output.specs.Source.{Content, InputContent, Rose}
+use Rattle.input_output.specs.Source.{Content, Rose}
 use Rattle.input_output.specs.declared.inputs.Input.{Input}
 use Rattle.elf_image.specs.Checks.{fault_of}
 use Rattle.elf_image.specs.declared.fault.ElfFault.{ElfFault}

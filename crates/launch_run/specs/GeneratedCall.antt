@@ -4,7 +4,6 @@ use Rattle.std.specs.Prelude.{ℕ, ◌≡◌, ◌≤◌, ◌⊎◌, true, List, 
 use Rattle.input_output.specs.Memory.{content_steadily}
 use Rattle.input_output.specs.Source.{InputContent, Rose}
 use Rattle.input_output.specs.declared.inputs.Input.{Input}
-use Rattle.kernel_cell.specs.declared.record.Record.{Record}
 use Rattle.command_line.specs.Settings.{Settings}
 use Rattle.command_line.specs.declared.generating.GenerateSettings.{GenerateSettings}
 use Rattle.guest_kit.specs.Generated.{IsGenerated}
