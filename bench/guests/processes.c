@@ -3,8 +3,8 @@
  * `../../guest/cc --bare -O2 -s -o processes.elf processes.c`.
  *
  * Its argument data is a map. `pages` has how many pages of memory are written before anything else. `forks` has how often a process is made that
- * exits at once, and is waited for. `children` has how many processes count side by side, `count` million times round a loop each, and are waited
- * for. With `chain` the first process has a child, which has a child, and so on, four in a row; then each of the four makes so many further children,
+ * exits at once, and is waited for. `children` has how many processes work side by side and are waited for: each counts, `count` million times round
+ * a loop, and makes `calls` thousand calls. With `chain` the first process has a child, which has a child, and so on, four in a row; then each of the four makes so many further children,
  * and all of these wait until the run ends.
  */
 #include "argdata.h"
@@ -83,13 +83,22 @@ static void count_round(int64_t millions)
         __asm__ volatile("");
 }
 
-static void compute(int64_t children, int64_t millions)
+/* The calls write no bytes to the pipe: they look at a descriptor and do nothing else. */
+static void call_often(int64_t thousands)
+{
+    size_t count;
+    for (int64_t left = thousands * 1000; left > 0; --left)
+        demand(cloudabi_sys_fd_write(ends[1], NULL, 0, &count) == CLOUDABI_ESUCCESS);
+}
+
+static void compute(int64_t children, int64_t millions, int64_t thousands)
 {
     cloudabi_fd_t process;
     make_pipe();
     for (int64_t made = 0; made < children; ++made) {
         if (divide(&process)) {
             count_round(millions);
+            call_often(thousands);
             cloudabi_sys_proc_exit(0);
         }
     }
@@ -137,7 +146,7 @@ void program_main(const argdata_t *arguments)
     for (int64_t left = number_of(arguments, "forks"); left > 0; --left)
         make_and_wait();
     if (children > 0)
-        compute(children, number_of(arguments, "count"));
+        compute(children, number_of(arguments, "count"), number_of(arguments, "calls"));
     if (chained > 0)
         chain(chained);
 }

@@ -169,6 +169,7 @@ opens_are_bounded launch front e rest begins legal lookup path oflags stat reply
       start = leads.start;
       flags = leads.flags;
       source = (λ i. sym held i lookup.fd) ∙ by.held;
+      right = by.right;
       directory = ap (λ (x : Descriptor). get w.state.opens x.id) (same_some by.x leads.x (sym by.held ∙ leads.held)) ∙ leads.directory;
       free = (λ i. sym held i reply.r1) ∙ gives.0;
       stands = (λ i. is i reply.r1) ∙ held_here before reply.r1 (opened_held made stat)

@@ -1,5 +1,6 @@
 -- What a call that succeeds shows of its process's descriptors.
 --     has_table, met_of_success      its process has a table, in which its needs are met
+--     may_open      a descriptor through which something is opened has the right to open
 --     opened_inherits      what is opened through a descriptor that has the rights needed has no right but those which that passes on
 --     act_is_within      so it is of each entry that fits
 use Rattle.std.proofs.Common.{◌≡◌, ◌≢◌, inl, inr, ℕ, ◌-◌, ◌^◌, ◌<◌, ◌&&◌, ◌==◌, Bool, true, false, max, List, Option, Some, None, refl, sym, ap, subst, ◌∙◌, arith}
@@ -13,6 +14,7 @@ use Rattle.std.specs.FinMap.{get}
 use Rattle.std.specs.List.{AllByRecursion}
 use Rattle.abi_base.proofs.Bits.{has-meet}
 use Rattle.abi_base.specs.Rights.{Has, minus_of}
+use Rattle.abi_base.specs.declared.rights.TheConstants.Rights.{FILE_OPEN}
 use Rattle.abi_base.specs.declared.errno.Errno.{Errno}
 use Rattle.abi_base.specs.declared.errno.Errno.TheVariants.{Badf, Fault, Nomem, Success}
 use Rattle.abi_structures.specs.declared.structures.FdStat.{FdStat}
@@ -57,7 +59,7 @@ use Rattle.run_model.specs.Legal.{FitsAct}
 use Rattle.run_model.specs.World.{Guest, called_state, woken_state, who_of}
 use Rattle.run_model.proofs.Words.{by_word}
 use Rattle.authority_laws.specs.Ledger.{After, Ledger}
-use Rattle.authority_laws.specs.Origins.{InheritsFrom, was_opened}
+use Rattle.authority_laws.specs.Origins.{AreAmong, InheritsFrom, was_opened}
 use Rattle.authority_laws.proofs.Origins.{ActIsWithin, AnswerIsWithin, OpensWithin}
 use Rattle.authority_laws.proofs.Rows.{row_in, badf_is_error}
 use Rattle.authority_laws.proofs.States.{HasRows}
@@ -146,6 +148,22 @@ named_small (Some kind) x named =
     let small = inheriting_small kind in
     omega (arith, same, most, small)
 
+base_small : (o : Option OpenKind) (x : Descriptor) → IsNamed o x → x.base.0 < 2 ^ 64
+base_small None x named = absurd named
+base_small (Some kind) x named =
+    let same : bit_and (fits kind) x.base.0 ≡ x.base.0 = eqb-true _ _ named.0 in
+    let most = and_le_l (fits kind) x.base.0 in
+    let small = fits_small kind in
+    omega (arith, same, most, small)
+
+-- a descriptor through which something is opened may open
+may_open : (x : Descriptor) (fd oflags : ℕ) (stat : FdStat) → x.base.0 < 2 ^ 64 → has_needed x (open_row fd oflags stat) ≡ true
+    → AreAmong FILE_OPEN.0 x.base.0
+may_open x fd oflags stat small has k opens =
+    let row = open_row fd oflags stat in
+    let none : minus_of row.base.0 x.base.0 ≡ 0 = eqb-true _ _ (both_hold ((lack_base x row).0 == 0) ((lack_inheriting x row).0 == 0) has).0 in
+    lacks_none row.base.0 x.base.0 k small (below_64 FILE_OPEN.0 k (omega arith) opens) none (first_has FILE_OPEN.0 _ k opens)
+
 pub opened_inherits : (x : Descriptor) (fd oflags number : ℕ) (kind : OpenKind) (stat : FdStat) → x.inheriting.0 < 2 ^ 64
     → has_needed x (open_row fd oflags stat) ≡ true → InheritsFrom (opened_descriptor number kind stat) x
 opened_inherits x fd oflags number kind stat small has =
@@ -170,6 +188,7 @@ opened_inherits x fd oflags number kind stat small has =
 pub record IsOpener (S : State) (p fd oflags : ℕ) (stat : FdStat) : Type 0 where
   pub x : Descriptor
   pub held : row_in (get S.tables p) fd ≡ Some x
+  pub right : AreAmong FILE_OPEN.0 x.base.0
   pub inherits : (number : ℕ) (kind : OpenKind) → InheritsFrom (opened_descriptor number kind stat) x
 
 opener_in : (constants : Constants) (S : State) (who : Who) (lookup : Lookup) (path : List ℕ) (oflags : ℕ) (stat : FdStat) (reply : Reply) (T : State)
@@ -180,10 +199,12 @@ opener_in constants S who lookup path oflags stat reply T None step success vali
 opener_in constants S who lookup path oflags stat reply T (Some table) step success valid own =
     let met : IsMet table (open_row lookup.fd oflags stat) =
     (met_of_success constants S who (FileOpen lookup path oflags stat) reply T table step success own).0 in
-    let small = named_small (get S.opens met.0.id) met.0 (valid.nearly.named who.pid lookup.fd table met.0 own met.1) in
+    let named = valid.nearly.named who.pid lookup.fd table met.0 own met.1 in
+    let small = named_small (get S.opens met.0.id) met.0 named in
     record {
       x = met.0;
       held = ap (λ o. row_in o lookup.fd) own ∙ met.1;
+      right = may_open met.0 lookup.fd oflags stat (base_small (get S.opens met.0.id) met.0 named) met.2;
       inherits = λ number kind. opened_inherits met.0 lookup.fd oflags number kind stat small met.2;
     }
 

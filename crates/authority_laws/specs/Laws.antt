@@ -148,8 +148,8 @@ RightsAreLowered =
     → LowersAt launch front e
 
 -- After a file_open that succeeded there stands under its result, under which nothing stood, the open that it made, with exactly
--- those of the rights asked that are of its type, each among those that the descriptor passed on from which it began; and its open
--- is of a file or a directory below the directory of that descriptor, or of a new file that is made below it.
+-- those of the rights asked that are of its type, each among those that the descriptor passed on from which it began; this one has the
+-- right FILE_OPEN; and the open is of a file or a directory below the directory of that descriptor, or of a new file that is made below it.
 abbrev pub OpensAt : Launch → List Entry → Entry → Type 0
 OpensAt launch front e =
     (lookup : Lookup) (path : List ℕ) (oflags : ℕ) (stat : FdStat) (reply : Reply) → Succeeds e (FileOpen lookup path oflags stat) reply

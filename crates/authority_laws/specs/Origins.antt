@@ -3,6 +3,7 @@ use Rattle.std.specs.Prelude.{◌≡◌, ◌≢◌, ◌↔◌, ◌⊎◌, ℕ, t
 use Rattle.std.specs.FinMap.{get}
 use Rattle.abi_base.specs.declared.grant.Grant.{Grant}
 use Rattle.abi_base.specs.Rights.{Has}
+use Rattle.abi_base.specs.declared.rights.TheConstants.Rights.{FILE_OPEN}
 use Rattle.abi_structures.specs.declared.structures.FdStat.{FdStat}
 use Rattle.abi_types.specs.declared.descriptor.Descriptor.{Descriptor}
 use Rattle.abi_types.specs.declared.open_kind.OpenKind.{OpenKind}
@@ -149,9 +150,9 @@ IsOpenedBelow before after start (Directory n flags) = member n (below before st
 IsOpenedBelow before after start _ = ⊥
 
 -- under `to`, under which nothing stood, stands d, which names the open that was made, with exactly those of the rights asked that
--- are of its type; these are among the rights that x passes on, which stood under fd; the open of x, in the state S before, was of
--- a directory, and the open that was made, which was not there in that state, is in the state U after of what is below that; and
--- under each other number stands what stood there
+-- are of its type; these are among the rights that x passes on, which stood under fd and has the right to open; the open of x, in the
+-- state S before, was of a directory, and the open that was made, which was not there in that state, is in the state U after of what is
+-- below that; and under each other number stands what stood there
 pub record IsOpened (S U : State) (made : Made) (before after : Row) (fd to : ℕ) (stat : FdStat) : Type 0 where
   pub d : Descriptor
   pub x : Descriptor
@@ -159,6 +160,7 @@ pub record IsOpened (S U : State) (made : Made) (before after : Row) (fd to : �
   pub start : ℕ
   pub flags : ℕ
   pub source : before fd ≡ Some x
+  pub right : AreAmong FILE_OPEN.0 x.base.0
   pub directory : get S.opens x.id ≡ Some (Directory start flags)
   pub free : before to ≡ None
   pub stands : after to ≡ Some d

@@ -57,8 +57,8 @@ pub fn rights_are_lowered()
 
 /// After a `file_open` of a legal history that succeeded there stands under its result, under which nothing stood, the open
 /// that it made, with exactly those of the rights asked that are of its type. Each is among those that the directory's
-/// descriptor passed on at that entry. Its open is of a file or a directory that was below that directory before the entry, or
-/// of a new file, which a directory below it then has. Under each other number stands what stood there.
+/// descriptor passed on at that entry, which had the right FILE_OPEN. Its open is of a file or a directory that was below that
+/// directory before the entry, or of a new file, which a directory below it then has. Under each other number stands what stood there.
 pub fn opens_are_bounded()
     ensures { OpensAreBounded }
 {}

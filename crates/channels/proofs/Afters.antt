@@ -1,5 +1,5 @@
 -- The sends that are left after a read, in one case and the other: it ends in the first of them, or goes on behind it.
---     after_inside, drawn_inside; after_past, drawn_past
+--     after_inside, after_past
 --     gone_after      each send has left or is left
 --     coming_within, first_few, bounded_by      the descriptors that come with the next byte, and those that wait behind
 use Rattle.std.proofs.Common.{◌≡◌, ℕ, zero, suc, ◌+◌, ◌-◌, ◌<◌, ◌≤◌, min, Bool, cond, not, ◌||◌, eqb, List, [], ◌∷◌, ◌++◌, length, inl, inr, refl, sym, ap, ◌∙◌, arith, lt-ltb, le-ltb}
@@ -9,7 +9,7 @@ use Rattle.std.proofs.lemmas.Bool.{eq-eqb, ne_eqb}
 use Rattle.std.proofs.lemmas.Bool.Decides.{eqb_tells}
 use Rattle.std.proofs.lemmas.List.{length-append}
 use Rattle.abi_types.specs.declared.descriptor.Descriptor.{Descriptor}
-use Rattle.channels.specs.Channels.{Send, HasByte, carried_of, coming, drawn_after, is_bounded, is_none, reach, sends_after, sends_gone, some_carries}
+use Rattle.channels.specs.Channels.{Send, HasByte, carried_of, coming, is_bounded, is_none, reach, sends_after, sends_gone, some_carries}
 use Rattle.channels.specs.ChannelLaws.{rest_of}
 use Rattle.channels.proofs.Takes.{ltb_cases}
 
@@ -23,17 +23,6 @@ pub after_past : (n : ℕ) (send : Send) (rest : List Send) → 0 < length send.
 after_past zero send rest some past = absurd (omega arith)
 after_past (suc n) send rest some past =
     ap (λ (less : Bool). cond less (rest_of (suc n) send ∷ rest) (sends_after (suc n - length send.bytes) rest)) (le-ltb (suc n) (length send.bytes) past)
-
-pub drawn_inside : (n drawn : ℕ) (send : Send) (rest : List Send) → n < length send.bytes → drawn_after n drawn (send ∷ rest) ≡ drawn + n
-drawn_inside zero drawn send rest inside = omega arith
-drawn_inside (suc n) drawn send rest inside =
-    ap (λ (less : Bool). cond less (drawn + suc n) (drawn_after (suc n - length send.bytes) 0 rest)) (lt-ltb (suc n) (length send.bytes) inside)
-
-pub drawn_past : (n drawn : ℕ) (send : Send) (rest : List Send) → 0 < length send.bytes → length send.bytes ≤ n
-    → drawn_after n drawn (send ∷ rest) ≡ drawn_after (n - length send.bytes) 0 rest
-drawn_past zero drawn send rest some past = absurd (omega arith)
-drawn_past (suc n) drawn send rest some past =
-    ap (λ (less : Bool). cond less (drawn + suc n) (drawn_after (suc n - length send.bytes) 0 rest)) (le-ltb (suc n) (length send.bytes) past)
 
 comes_none : (n : ℕ) → coming n [] ≡ []
 comes_none zero = refl

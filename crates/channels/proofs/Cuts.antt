@@ -2,13 +2,13 @@
 --     bytes_of-cut, carried_of-cut, length-cut      all that the rings have, in as many sends as there are pieces
 --     plain-cut, reach-cut, coming-cut      what a read takes of them
 --     cut-push      one piece more
-use Rattle.std.proofs.Common.{◌≡◌, ℕ, zero, suc, ◌+◌, ◌-◌, ◌<◌, ◌≤◌, Bool, true, false, cond, eqb, List, [], ◌∷◌, ◌++◌, length, take, drop, inl, inr, refl, sym, ap, ◌∙◌, arith}
+use Rattle.std.proofs.Common.{◌≡◌, ℕ, zero, suc, ◌+◌, ◌-◌, ◌<◌, ◌≤◌, Bool, true, false, cond, eqb, List, [], ◌∷◌, ◌++◌, length, take, drop, refl, sym, ap, ◌∙◌, arith}
 use lib.Dec.{eqb-suc-zero}
 use Rattle.std.specs.List.{All, AllByRecursion}
 use Rattle.std.proofs.lemmas.List.{nil_from_length, length-drop, length-take-le, take-append-drop, take-append-le, drop-append-le, take_all}
 use Rattle.abi_types.specs.declared.descriptor.Descriptor.{Descriptor}
 use Rattle.channels.specs.declared.pieces.Piece.{Piece}
-use Rattle.channels.specs.Channels.{Send, bytes_of, carried_of, coming, is_none, most_bytes, plain_reach, reach, HasByte, IsDrawnFrom}
+use Rattle.channels.specs.Channels.{Send, bytes_of, carried_of, coming, is_none, most_bytes, plain_reach, reach, HasByte}
 use Rattle.channels.specs.Rings.{IsPiece, IsInFirst, cut, fds_of, piece_left, pieces_left, plain_pieces, reach_pieces, size_of}
 
 -- ---- what pieces cover
@@ -111,12 +111,6 @@ each-left drawn (piece ∷ pieces) first each zero d below =
     let whole : IsPiece piece = each zero piece (omega arith) in
     record { some = omega arith; most = omega (arith, whole.most) }
 each-left drawn (piece ∷ pieces) first each (suc k) d below = each (suc k) d below
-
-pub drawn-cut : (drawn : ℕ) (pieces : List Piece) (bytes : List ℕ) (fds : List Descriptor) → IsInFirst drawn pieces
-    → IsDrawnFrom drawn (cut (pieces_left drawn pieces) bytes fds)
-drawn-cut drawn [] bytes fds first = first
-drawn-cut zero (piece ∷ pieces) bytes fds first = inl refl
-drawn-cut (suc drawn) (piece ∷ pieces) bytes fds first = inr refl
 
 -- no more bytes of the first were drawn than a piece may have
 pub drawn_fits : (drawn : ℕ) (pieces : List Piece) → IsInFirst drawn pieces → All IsPiece pieces → drawn ≤ most_bytes

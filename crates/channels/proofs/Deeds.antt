@@ -4,7 +4,7 @@ use Rattle.std.specs.List.{AllByRecursion}
 use Rattle.std.proofs.lemmas.List.{length-append, length_push, length-drop, length-take, take-append-drop, take_min, drop-append-le, drop-drop, drop_at}
 use Rattle.abi_types.specs.declared.descriptor.Descriptor.{Descriptor}
 use Rattle.channels.specs.declared.side.Side.TheVariants.{Reader, Writer}
-use Rattle.channels.specs.Channels.{Send, Channel, IsChannel, HasByte, IsDrawnFrom, bytes_of, carried_of, coming, drawn_after, drawn_by, has_room, is_empty, is_hung, is_none, plain_reach, push_if, pushed, reach, room, sends_after}
+use Rattle.channels.specs.Channels.{Send, Channel, IsChannel, HasByte, bytes_of, carried_of, coming, drawn_by, has_room, is_hung, is_none, plain_reach, push_if, pushed, reach, room, sends_after}
 use Rattle.channels.specs.ChannelLaws.{StopsBeforeCarried, TakesAllPlain, ReadsLeaveRest, IsPart, rest_of, begun_at, SendsAddOne, Deed, writes, reads, left_by, bytes_by, carried_by, after, all_after, bytes_in, carried_in, bytes_out, carried_out, along, BytesComeOnce, CarriedComeOnce, NewIsChannel, StaysChannel, ShutIsChannel, ReadsKeepCount, ShutKeepsCount}
 use Rattle.channels.proofs.Afters.{gone_after}
 use Rattle.channels.proofs.Takes.{IsTaken, may_take, ltb_cases, bool_cases}
@@ -95,19 +95,6 @@ whole_after (suc n) (send ∷ rest) whole =
       | inr past ↦ rw past.0 (whole_after (suc n - length send.bytes) rest whole.1)
     ]
 
-none_drawn : (sends : List Send) → IsDrawnFrom zero sends
-none_drawn [] = refl
-none_drawn (send ∷ rest) = inl refl
-
-begun_after : (n drawn : ℕ) (sends : List Send) → IsDrawnFrom drawn sends → IsDrawnFrom (drawn_after n drawn sends) (sends_after n sends)
-begun_after zero drawn sends begun = begun
-begun_after (suc n) drawn [] begun = refl
-begun_after (suc n) drawn (send ∷ rest) begun =
-    elim (ltb_cases (suc n) (length send.bytes)) [
-      | inl inside ↦ rw inside.0 (inr refl)
-      | inr past ↦ rw past.0 (begun_after (suc n - length send.bytes) zero rest (none_drawn rest))
-    ]
-
 none_after : (n : ℕ) (sends : List Send) → sends ≡ [] → sends_after n sends ≡ []
 none_after zero sends none = none
 none_after (suc n) [] none = refl
@@ -148,7 +135,7 @@ takes_all_plain channel first front is none =
 -- ---- what a read leaves
 
 -- the same of sends alone
-record LeavesSends (n drawn : ℕ) (before after : List Send) (to : ℕ) : Type 0 where
+record LeavesSends (n : ℕ) (before after : List Send) : Type 0 where
   pub gone : List Send
   pub stay : List Send
   pub part : ℕ
@@ -156,11 +143,6 @@ record LeavesSends (n drawn : ℕ) (before after : List Send) (to : ℕ) : Type 
   pub bytes : n ≡ length (bytes_of gone) + part
   pub less : IsPart part stay
   pub is : after ≡ begun_at part stay
-  pub drawn_is : to ≡ cond (is_empty gone) (drawn + part) part
-
-from_none : (part : ℕ) (gone : List Send) → cond (is_empty gone) (zero + part) part ≡ part
-from_none part [] = omega arith
-from_none part (send ∷ gone) = refl
 
 none_begun : (sends : List Send) → begun_at zero sends ≡ sends
 none_begun [] = refl
@@ -170,9 +152,9 @@ none_is_part : (sends : List Send) → AllByRecursion HasByte sends → IsPart z
 none_is_part [] whole = refl
 none_is_part (send ∷ rest) whole = whole.0
 
-leaves_sends : (n drawn : ℕ) (sends : List Send) → AllByRecursion HasByte sends → n ≤ length (bytes_of sends)
-    → LeavesSends n drawn sends (sends_after n sends) (drawn_after n drawn sends)
-leaves_sends zero drawn sends whole within = record {
+leaves_sends : (n : ℕ) (sends : List Send) → AllByRecursion HasByte sends → n ≤ length (bytes_of sends)
+    → LeavesSends n sends (sends_after n sends)
+leaves_sends zero sends whole within = record {
   gone = [];
   stay = sends;
   part = 0;
@@ -180,10 +162,9 @@ leaves_sends zero drawn sends whole within = record {
   bytes = omega arith;
   less = none_is_part sends whole;
   is = sym (none_begun sends);
-  drawn_is = omega arith;
 }
-leaves_sends (suc n) drawn [] whole within = absurd (omega arith)
-leaves_sends (suc n) drawn (send ∷ rest) whole within =
+leaves_sends (suc n) [] whole within = absurd (omega arith)
+leaves_sends (suc n) (send ∷ rest) whole within =
     elim (ltb_cases (suc n) (length send.bytes)) [
       | inl inside ↦
           rw inside.0 (record {
@@ -194,12 +175,11 @@ leaves_sends (suc n) drawn (send ∷ rest) whole within =
             bytes = omega arith;
             less = inside.1;
             is = refl;
-            drawn_is = refl;
           })
       | inr past ↦
           let size = length-append send.bytes (bytes_of rest) in
           let more : ℕ = suc n - length send.bytes in
-          let behind = leaves_sends more zero rest whole.1 (omega (arith, size)) in
+          let behind = leaves_sends more rest whole.1 (omega (arith, size)) in
           rw past.0 (record {
             gone = send ∷ behind.gone;
             stay = behind.stay;
@@ -208,7 +188,6 @@ leaves_sends (suc n) drawn (send ∷ rest) whole within =
             bytes = omega (arith, past.1, behind.bytes, length-append send.bytes (bytes_of behind.gone));
             less = behind.less;
             is = behind.is;
-            drawn_is = behind.drawn_is ∙ from_none behind.part behind.gone;
           })
     ]
 
@@ -218,7 +197,7 @@ length-begun_at part (send ∷ rest) = refl
 
 pub reads_leave_rest : ReadsLeaveRest
 reads_leave_rest n channel is within =
-    let leaves = leaves_sends n channel.drawn channel.waiting is.whole within in
+    let leaves = leaves_sends n channel.waiting is.whole within in
     let before : length channel.waiting ≡ length leaves.gone + length leaves.stay =
     ap (λ (s : List Send). length s) leaves.was ∙ length-append leaves.gone leaves.stay in
     let after_it : length (sends_after n channel.waiting) ≡ length leaves.stay =
@@ -231,16 +210,11 @@ reads_leave_rest n channel is within =
       bytes = leaves.bytes;
       less = leaves.less;
       is = leaves.is;
-      drawn = leaves.drawn_is;
       left = omega (arith, before, after_it, gone_after n channel.waiting);
       sides = (refl, refl);
     }
 
 -- ---- what always holds
-
-begun_push : (drawn : ℕ) (sends : List Send) (send : Send) → IsDrawnFrom drawn sends → IsDrawnFrom drawn (sends ++ send ∷ [])
-begun_push drawn [] send begun = inl begun
-begun_push drawn (first ∷ rest) send begun = begun
 
 whole_push : (sends : List Send) (send : Send) → AllByRecursion HasByte sends → HasByte send → AllByRecursion HasByte (sends ++ send ∷ [])
 whole_push [] send whole byte = (byte, tt)
@@ -263,7 +237,6 @@ sent_is_channel bytes carried channel some takes is =
       whole = whole_push channel.waiting last is.whole byte;
       bytes = omega (arith, size, length-take (room channel) bytes, is.bytes);
       carried = omega (arith, count, takes.fit);
-      drawn = begun_push channel.drawn channel.waiting last is.drawn;
       read = λ closed. absurd (true≢false (sym takes.reader_there ∙ closed));
     }
 
@@ -278,7 +251,6 @@ drawn_is_channel n channel within is =
       whole = whole_after n channel.waiting is.whole;
       bytes = omega (arith, bytes, is.bytes);
       carried = omega (arith, carried, is.carried);
-      drawn = begun_after n channel.drawn channel.waiting is.drawn;
       read = λ closed. none_after n channel.waiting (is.read closed);
     }
 
@@ -321,16 +293,16 @@ stays_channel [] channel is = is
 stays_channel (deed ∷ deeds) channel is = stays_channel deeds (after deed channel) (step_keeps deed channel is)
 
 pub new_is_channel : NewIsChannel
-new_is_channel = record { whole = tt; bytes = omega arith; carried = omega arith; drawn = refl; read = λ closed. refl }
+new_is_channel = record { whole = tt; bytes = omega arith; carried = omega arith; read = λ closed. refl }
 
 pub shut_is_channel : ShutIsChannel
 shut_is_channel Reader channel is = (
-  record { whole = tt; bytes = omega arith; carried = omega arith; drawn = refl; read = λ closed. refl },
-  record { whole = tt; bytes = omega arith; carried = omega arith; drawn = refl; read = λ closed. refl },
+  record { whole = tt; bytes = omega arith; carried = omega arith; read = λ closed. refl },
+  record { whole = tt; bytes = omega arith; carried = omega arith; read = λ closed. refl },
 )
 shut_is_channel Writer channel is = (
-  record { whole = is.whole; bytes = is.bytes; carried = is.carried; drawn = is.drawn; read = is.read },
-  record { whole = is.whole; bytes = is.bytes; carried = is.carried; drawn = is.drawn; read = is.read },
+  record { whole = is.whole; bytes = is.bytes; carried = is.carried; read = is.read },
+  record { whole = is.whole; bytes = is.bytes; carried = is.carried; read = is.read },
 )
 
 pub sends_add_one : SendsAddOne

@@ -15,7 +15,7 @@ use Rattle.channels.specs.declared.side.SideState.{SideState}
 use Rattle.channels.specs.Channels.{Send, Channel, IsChannel, IsFilled, IsPulled, sends, most_bytes, most_carried, bytes_of, carried_of, coming, drawn_by, has_room, is_hung, is_open, push, pushed, pull, reach, room, sends_after, sends_gone, taken}
 use Rattle.channels.specs.Rings.{IsKept, IsPiece, cut, seen, emptied, fds_of, pieces_left, reach_pieces, size_of, pieces_from, drawn_in}
 use Rattle.channels.proofs.Afters.{coming_within, first_few, gone_after}
-use Rattle.channels.proofs.Cuts.{bytes_of-cut, carried_of-cut, length-cut, length-left, reach-cut, reach_fits, each-cut, each-left, drawn-cut, drawn_fits, in_first_push, cut-push, pieces_left-push, piece_of, size_of-push, fds_of-push}
+use Rattle.channels.proofs.Cuts.{bytes_of-cut, carried_of-cut, length-cut, length-left, reach-cut, reach_fits, each-cut, each-left, drawn_fits, in_first_push, cut-push, pieces_left-push, piece_of, size_of-push, fds_of-push}
 use Rattle.channels.proofs.Pulls.{IsRead, read_laid, come_pieces, come-cut, come_front}
 use Rattle.channels.proofs.Takes.{IsTaken, may_take, pushes}
 
@@ -38,7 +38,6 @@ module _ (kind : ChanKind) (left drawn : ℕ) (pieces : List Piece) (bytes : Lis
     whole = each-cut (pieces_left drawn pieces) bytes fds kept.laid.bytes_are (each-left drawn pieces kept.laid.first kept.laid.each);
     bytes = omega (arith, ap (λ (b : List ℕ). length b) all_bytes, kept.most.0);
     carried = omega (arith, ap (λ (f : List Descriptor). length f) all_fds, kept.most.1);
-    drawn = drawn-cut drawn pieces bytes fds kept.laid.first;
     read = λ closed. ap (λ (ps : List Piece). cut (pieces_left drawn ps) bytes fds) (kept.unread closed);
   }
 
@@ -240,8 +239,7 @@ module _ (kind : ChanKind) (left drawn : ℕ) (pieces : List Piece) (bytes : Lis
             ∙ ap (λ (rest : List Send). length rest) waits in
             let gone : left + (before - behind) ≡ left + sends_gone n now.waiting =
             omega (arith, before_is, behind_is, size, all_sends, gone_after n now.waiting) in
-            let some_drawn = drawn_is ∙ read.drawn_is in
-            λ i. record { kind = kind; left = gone i; waiting = waits i; drawn = some_drawn i; reader = reader; writer = writer }
+            λ i. record { kind = kind; left = gone i; waiting = waits i; reader = reader; writer = writer }
 
         came : take m fds ≡ coming n old.waiting
         came =
@@ -272,7 +270,7 @@ module _ (kind : ChanKind) (left drawn : ℕ) (pieces : List Piece) (bytes : Lis
     seen_shut to gone pieces_new bytes_new fds_new gone_is pieces_is =
         let waits : cut (pieces_left 0 pieces_new) bytes_new fds_new ≡ [] = ap (λ (ps : List Piece). cut (pieces_left 0 ps) bytes_new fds_new) pieces_is in
         let all : left + gone ≡ left + length now.waiting = ap (λ (k : ℕ). left + k) (gone_is ∙ sym all_sends) in
-        (λ i. record { kind = kind; left = all i; waiting = waits i; drawn = 0; reader = to; writer = writer }) ∙ ap (emptied to) is
+        (λ i. record { kind = kind; left = all i; waiting = waits i; reader = to; writer = writer }) ∙ ap (emptied to) is
 
     pub all_released : (count : ℕ) (out out_new : List Descriptor) → count ≡ length fds → IsFilled (take count fds) out out_new
         → IsFilled (carried_of old.waiting) out out_new

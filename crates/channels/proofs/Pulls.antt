@@ -6,10 +6,10 @@ use Rattle.std.proofs.lemmas.Bool.Decides.{eqb_tells}
 use Rattle.std.proofs.lemmas.List.{length-drop, length-take-le, drop-drop, drop-take}
 use Rattle.abi_types.specs.declared.descriptor.Descriptor.{Descriptor}
 use Rattle.channels.specs.declared.pieces.Piece.{Piece}
-use Rattle.channels.specs.Channels.{Send, coming, sends_after, drawn_after}
+use Rattle.channels.specs.Channels.{Send, coming, sends_after}
 use Rattle.channels.specs.ChannelLaws.{rest_of}
 use Rattle.channels.specs.Rings.{IsPiece, IsInFirst, cut, fds_of, fds_left, piece_left, pieces_left, plain_pieces, reach_pieces, size_of, pieces_from, drawn_in}
-use Rattle.channels.proofs.Afters.{after_inside, after_past, drawn_inside, drawn_past}
+use Rattle.channels.proofs.Afters.{after_inside, after_past}
 use Rattle.channels.proofs.Cuts.{coming_pieces, coming-cut, coming_fits, pieces_left-none, send_of}
 use Rattle.channels.proofs.Takes.{ltb_cases}
 
@@ -57,7 +57,6 @@ plain_reach (piece ∷ pieces) =
 -- What holds after a read of n bytes, with which `come` descriptors came, where `to` bytes of the first of the `rest` are drawn.
 pub record IsRead (pieces : List Piece) (drawn n come : ℕ) (bytes : List ℕ) (fds : List Descriptor) (to : ℕ) (rest : List Piece) : Type 0 where
   pub waits : cut (pieces_left to rest) (drop n bytes) (drop come fds) ≡ sends_after n (cut (pieces_left drawn pieces) bytes fds)
-  pub drawn_is : to ≡ drawn_after n drawn (cut (pieces_left drawn pieces) bytes fds)
   pub first : IsInFirst to rest
   pub each : All IsPiece rest
   pub bytes_are : size_of (pieces_left to rest) ≡ length (drop n bytes)
@@ -119,7 +118,6 @@ module _ (piece : Piece) (pieces : List Piece) (drawn : ℕ) (bytes : List ℕ) 
       let left = begun_fds n inside in
       record {
         waits = begun_cut n inside ∙ sym (after_inside n send behind less);
-        drawn_is = sym (drawn_inside n drawn send behind less);
         first = inside;
         each = each;
         bytes_are = omega (arith, length-drop n bytes);
@@ -138,8 +136,6 @@ module _ (piece : Piece) (pieces : List Piece) (drawn : ℕ) (bytes : List ℕ) 
       let over : n - length send.bytes ≡ more = omega (arith, length_send) in
       let after : sends_after n (send ∷ behind) ≡ sends_after more behind =
       after_past n send behind byte past ∙ ap (λ (m : ℕ). sends_after m behind) over in
-      let drawn_so : drawn_after n drawn (send ∷ behind) ≡ drawn_after more 0 behind =
-      drawn_past n drawn send behind byte past ∙ ap (λ (m : ℕ). drawn_after m 0 behind) over in
       let all : pieces_left zero pieces ≡ pieces = pieces_left-none pieces in
       let gone : drop more (drop (piece.bytes - drawn) bytes) ≡ drop n bytes =
       drop-drop more (piece.bytes - drawn) bytes ∙ ap (λ (k : ℕ). drop k bytes) (sym sum) in
@@ -150,7 +146,6 @@ module _ (piece : Piece) (pieces : List Piece) (drawn : ℕ) (bytes : List ℕ) 
             ∙ read.waits
             ∙ ap (λ (ps : List Piece). sends_after more (cut_behind ps)) all
             ∙ sym after;
-        drawn_is = read.drawn_is ∙ ap (λ (ps : List Piece). drawn_after more 0 (cut_behind ps)) all ∙ sym drawn_so;
         first = read.first;
         each = read.each;
         bytes_are = read.bytes_are ∙ ap (λ (b : List ℕ). length b) gone;
@@ -169,7 +164,6 @@ pub read_laid : (pieces : List Piece) (drawn n : ℕ) (bytes : List ℕ) (fds : 
     → IsRead pieces drawn n (come_pieces n (pieces_left drawn pieces)) bytes fds (drawn_in (drawn + n) pieces) (pieces_from (drawn + n) pieces)
 read_laid [] drawn zero bytes fds first each size carried within = record {
   waits = refl;
-  drawn_is = omega arith;
   first = omega arith;
   each = each;
   bytes_are = size;

@@ -1,8 +1,8 @@
 -- What the rules on channels say in other words.
-use Rattle.std.specs.Prelude.{◌≡◌, ◌≢◌, ℕ, zero, suc, ◌+◌, ◌<◌, ◌≤◌, if◌then◌else◌, List, [], ◌∷◌, ◌++◌, length, take, drop}
+use Rattle.std.specs.Prelude.{◌≡◌, ◌≢◌, ℕ, zero, suc, ◌+◌, ◌<◌, ◌≤◌, List, [], ◌∷◌, ◌++◌, length, take, drop}
 use Rattle.abi_types.specs.declared.descriptor.Descriptor.{Descriptor}
 use Rattle.channels.specs.declared.side.Side.{Side}
-use Rattle.channels.specs.Channels.{Send, Channel, IsChannel, Push, hung, full, sends, new_channel, bytes_of, carried_of, is_empty, push, pushed, reach, pull, drawn_by, shut_at, left_at}
+use Rattle.channels.specs.Channels.{Send, Channel, IsChannel, Push, hung, full, sends, new_channel, bytes_of, carried_of, push, pushed, reach, pull, drawn_by, shut_at, left_at}
 
 -- ---- one read
 
@@ -41,7 +41,6 @@ pub record LeavesRest (n : ℕ) (old new : Channel) : Type 0 where
   pub bytes : n ≡ length (bytes_of gone) + part
   pub less : IsPart part stay
   pub is : new.waiting ≡ begun_at part stay
-  pub drawn : new.drawn ≡ (if is_empty gone then old.drawn + part else part)
   pub left : new.left ≡ old.left + length gone
   pub sides : (new.reader ≡ old.reader) × (new.writer ≡ old.writer)
 

@@ -4,7 +4,7 @@
 --     its sides: with_reader_shut, with_writer_shut, channel_left, is_over
 --     what a channel may be: IsChannel
 --     what contracts say of buffers and faults: IsFilled, IsPulled, IsWhyNotPushed; of a side: shut_at, left_at, released_at
-use Rattle.std.specs.Prelude.{◌≡◌, ◌⊎◌, ℕ, zero, suc, ◌+◌, ◌-◌, ◌<◌, ◌≤◌, ◌==◌, ◌&&◌, ◌||◌, min, nat_lt, nat_le, not, Bool, true, false, List, [], ◌∷◌, ◌++◌, length, take, drop, if◌then◌else◌, refl}
+use Rattle.std.specs.Prelude.{◌≡◌, ℕ, zero, suc, ◌+◌, ◌-◌, ◌<◌, ◌≤◌, ◌==◌, ◌&&◌, ◌||◌, min, nat_lt, nat_le, not, Bool, true, false, List, [], ◌∷◌, ◌++◌, length, take, drop, if◌then◌else◌, refl}
 use Rattle.std.specs.Coded.{Coded, code_by, coded_ℕ, coded×, coded_list}
 use Rattle.std.specs.List.{AllByRecursion}
 use Rattle.abi_types.specs.declared.chan_kind.ChanKind.{ChanKind}
@@ -27,19 +27,18 @@ pub record Send : Type 0 where
   pub bytes : List ℕ
   pub carried : List Descriptor
 
--- the channel's kind; how many sends have left it; those that wait, the first of them first; how many bytes of that one were drawn; and the
--- two sides
+-- the channel's kind; how many sends have left it; those that wait, the first of them first: of one from which bytes were drawn, what is
+-- left of it; and the two sides
 pub record Channel : Type 0 where
   pub kind : ChanKind
   pub left : ℕ
   pub waiting : List Send
-  pub drawn : ℕ
   pub reader : SideState
   pub writer : SideState
 
 -- a channel to which nothing was sent
 abbrev pub new_channel : Channel
-new_channel = record { kind = chan_kind.Stream; left = 0; waiting = []; drawn = 0; reader = Open; writer = Open }
+new_channel = record { kind = chan_kind.Stream; left = 0; waiting = []; reader = Open; writer = Open }
 
 -- all bytes of sends, in order; and all descriptors that they carry
 abbrev pub bytes_of : List Send → List ℕ
@@ -129,13 +128,6 @@ sends_gone zero waiting = 0
 sends_gone (suc m) [] = 0
 sends_gone (suc m) (send ∷ rest) = if nat_lt (suc m) (length send.bytes) then 0 else 1 + sends_gone (suc m - length send.bytes) rest
 
--- how many bytes of the first that is left were drawn then, where so many of the first were drawn before
-abbrev pub drawn_after : ℕ → ℕ → List Send → ℕ
-drawn_after zero drawn waiting = drawn
-drawn_after (suc m) drawn [] = 0
-drawn_after (suc m) drawn (send ∷ rest) =
-    if nat_lt (suc m) (length send.bytes) then drawn + suc m else drawn_after (suc m - length send.bytes) 0 rest
-
 -- the descriptors that come with the first m bytes: those of the first send come with its first byte
 abbrev pub coming : ℕ → List Send → List Descriptor
 coming zero waiting = []
@@ -144,11 +136,7 @@ coming (suc m) (send ∷ rest) = send.carried
 
 -- the channel once m bytes were drawn
 abbrev pub drawn_by : ℕ → Channel → Channel
-drawn_by m channel = record channel {
-  left = channel.left + sends_gone m channel.waiting;
-  waiting = sends_after m channel.waiting;
-  drawn = drawn_after m channel.drawn channel.waiting;
-}
+drawn_by m channel = record channel { left = channel.left + sends_gone m channel.waiting; waiting = sends_after m channel.waiting }
 
 -- what a read takes, and the channel that it leaves
 pub record Pulled : Type 0 where
@@ -203,14 +191,14 @@ shut_side Gone = Gone
 -- the channel once its reader was shut, where nothing waits any more; and once its writer was, where what waits still does
 abbrev pub with_reader_shut : Channel → Channel
 with_reader_shut channel =
-    record channel { left = channel.left + length channel.waiting; waiting = []; drawn = 0; reader = shut_side channel.reader }
+    record channel { left = channel.left + length channel.waiting; waiting = []; reader = shut_side channel.reader }
 
 abbrev pub with_writer_shut : Channel → Channel
 with_writer_shut channel = record channel { writer = shut_side channel.writer }
 
 -- where the end that reads it has ended nothing waits in it any more
 abbrev pub without_reader : Bool → Channel → Channel
-without_reader true channel = record channel { left = channel.left + length channel.waiting; waiting = []; drawn = 0; reader = Gone }
+without_reader true channel = record channel { left = channel.left + length channel.waiting; waiting = []; reader = Gone }
 without_reader false channel = channel
 
 -- where the end that writes it has ended what waits in it still does
@@ -238,18 +226,11 @@ is_over channel = is_gone channel.reader && (is_gone channel.writer && is_empty 
 abbrev pub HasByte : Send → Type 0
 HasByte send = 0 < length send.bytes
 
--- where bytes of the first send were drawn, it carries nothing more
-abbrev pub IsDrawnFrom : ℕ → List Send → Type 0
-IsDrawnFrom drawn [] = drawn ≡ 0
-IsDrawnFrom drawn (send ∷ rest) = (drawn ≡ 0) ⊎ (send.carried ≡ [])
-
--- Each send that waits has a byte; no more bytes and descriptors wait than may; where bytes of the first send were drawn it carries
--- nothing more; and nothing waits unless the side that reads is open.
+-- Each send that waits has a byte; no more bytes and descriptors wait than may; and nothing waits unless the side that reads is open.
 pub record IsChannel (channel : Channel) : Type 0 where
   pub whole : AllByRecursion HasByte channel.waiting
   pub bytes : length (bytes_of channel.waiting) ≤ most_bytes
   pub carried : length (carried_of channel.waiting) ≤ most_carried
-  pub drawn : IsDrawnFrom channel.drawn channel.waiting
   pub read : is_open channel.reader ≡ false → channel.waiting ≡ []
 
 -- ---- what contracts say
@@ -299,8 +280,8 @@ send_code =
 
 abbrev pub channel_code : Coded Channel
 channel_code =
-    code_by (ChanKind × (ℕ × (List Send × (ℕ × (SideState × SideState)))))
+    code_by (ChanKind × (ℕ × (List Send × (SideState × SideState))))
     (coded× chan_kind_row.the_row.coded
-    (coded× coded_ℕ (coded× (coded_list send_code) (coded× coded_ℕ (coded× side_state.the_row.coded side_state.the_row.coded)))))
-    (λ c. (c.kind, (c.left, (c.waiting, (c.drawn, (c.reader, c.writer))))))
-    (λ f. record { kind = f.0; left = f.1.0; waiting = f.1.1.0; drawn = f.1.1.1.0; reader = f.1.1.1.1.0; writer = f.1.1.1.1.1 }) (λ _. refl)
+    (coded× coded_ℕ (coded× (coded_list send_code) (coded× side_state.the_row.coded side_state.the_row.coded))))
+    (λ c. (c.kind, (c.left, (c.waiting, (c.reader, c.writer)))))
+    (λ f. record { kind = f.0; left = f.1.0; waiting = f.1.1.0; reader = f.1.1.1.0; writer = f.1.1.1.1 }) (λ _. refl)

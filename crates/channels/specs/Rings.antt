@@ -31,14 +31,13 @@ seen kind left drawn pieces bytes fds reader writer = record {
   kind = kind;
   left = left;
   waiting = cut (pieces_left drawn pieces) bytes fds;
-  drawn = drawn;
   reader = reader;
   writer = writer;
 }
 
 -- the channel where nothing waits any more and its reader stands so
 abbrev pub emptied : SideState → Channel → Channel
-emptied to channel = record channel { left = channel.left + length channel.waiting; waiting = []; drawn = 0; reader = to }
+emptied to channel = record channel { left = channel.left + length channel.waiting; waiting = []; reader = to }
 
 -- how many bytes and descriptors pieces have
 abbrev pub size_of : List Piece → ℕ

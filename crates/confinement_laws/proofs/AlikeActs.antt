@@ -3,7 +3,7 @@
 --     at_state      the world with another state of the kernel
 --     fits_there      the entry fits there
 --     apply_kept, apply_guests      and leaves the same
-use Rattle.std.proofs.Common.{◌≡◌, inl, inr, ℕ, true, List, Option, Some, None, refl, sym, ap, subst, ◌∙◌}
+use Rattle.std.proofs.Common.{◌≡◌, inl, inr, ℕ, true, false, List, Option, Some, None, refl, sym, ap, subst, ◌∙◌}
 use Rattle.std.specs.FinMap.{get}
 use Rattle.abi_base.specs.declared.signal.Signal.TheVariants.{Xcpu}
 use Rattle.abi_types.specs.declared.call.Call.{Call}
@@ -20,16 +20,18 @@ use Rattle.call_codec.specs.Arguments.{args_of}
 use Rattle.run_types.specs.declared.history.Act.{Act}
 use Rattle.run_types.specs.declared.history.Act.TheVariants as act
 use Rattle.run_types.specs.declared.history.Entry.{Entry}
+use Rattle.kernel_model.specs.Calls.{meaning_of}
 use Rattle.kernel_model.specs.Deadlines.{least_deadline}
 use Rattle.kernel_model.specs.Families.Locks.{with_word}
 use Rattle.kernel_model.specs.Laws.{HasSameSight}
 use Rattle.kernel_model.specs.Outcome.{Outcome, IsSuccess}
 use Rattle.kernel_model.specs.State.{State, at_clock, thread_of, threads_of}
-use Rattle.kernel_model.specs.Step.{step_state, failed, IsStep}
+use Rattle.kernel_model.specs.Step.{step_answer, step_state, failed, IsStep}
 use Rattle.kernel_model.specs.Valid.{IsValid}
 use Rattle.kernel_model.specs.Waits.{may_wait, resumed, MayWait, WaitsIn}
 use Rattle.kernel_model.specs.Wakes.{is_ready, is_ready_as, AllParked, IsWake, NoneReady}
 use Rattle.kernel_model.proofs.Decisions.{sight_decides}
+use Rattle.kernel_model.proofs.Tests.{not_true}
 use Rattle.kernel_model.proofs.WakeSights.{ready_decided, resumed_sees_same}
 use Rattle.run_model.specs.Confined.{MayAnswer}
 use Rattle.run_model.specs.Legal.{IsAnswered, FitsAct, Fits}
@@ -107,8 +109,17 @@ module _ (constants : Constants) (S U : State) (sees : SeesSame S U) where
   wakes_there : (who : Who) (call : Call) (given : WakeIn) (answered : Answer) (T : State) → IsWake constants S who call given answered T
       → (V : State) × IsWake constants U who call given answered V
   wakes_there who call (wake.Plain word) answered T is =
-      let may = call_answers constants (resumed S who) (resumed U who) who (with_word word call) answered T (wake_sees who (with_word word call)) is.0 in
-      (may.0, (may.1, is.1))
+      let plain : Call = with_word word call in
+      elim (meaning_of call).by_stage as (λ b. (meaning_of call).by_stage ≡ b
+      → (V : State) × IsWake constants U who call (wake.Plain word) answered V) [
+        | true ↦ λ by. (
+            let there : answered ≡ step_answer constants (resumed U who) who plain =
+            (is.2 by).0 ∙ ap (λ (o : Outcome). o.answer) (sight_decides constants (resumed S who) (resumed U who) who plain (wake_sees who plain)) in
+            (step_state constants (resumed U who) who plain, (inl (there, refl), is.1, λ _. (there, refl))))
+        | false ↦ λ by. (
+            let may = call_answers constants (resumed S who) (resumed U who) who plain answered T (wake_sees who plain) is.0 in
+            (may.0, (may.1, is.1, λ other. absurd (not_true (sym by ∙ other)))))
+      ] refl
   wakes_there who call wake.Fault answered T is = (failed (resumed U who) who, (is.0, refl))
 
 may_wait_in : (S : State) (who : Who) (call : Call) → IsValid S → WaitsIn S who call → may_wait call ≡ true

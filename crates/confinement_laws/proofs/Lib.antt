@@ -14,6 +14,8 @@ pub mod HeldRights
 pub mod SentAsWaiting
 pub mod Refused
 pub mod Runs
+pub mod Making
+pub mod ReachLaws
 pub mod Needs
 pub mod Writing
 pub mod WritingCalls

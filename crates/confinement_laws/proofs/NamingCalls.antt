@@ -20,6 +20,7 @@ use Rattle.abi_types.specs.declared.constants.Constants.{Constants}
 use Rattle.abi_types.specs.declared.node.Node.{Node}
 use Rattle.abi_types.specs.declared.node.NodeKind.{NodeKind}
 use Rattle.abi_types.specs.declared.node.NodeKind.TheVariants as kind
+use Rattle.abi_types.specs.declared.descriptor.Descriptor.{Descriptor}
 use Rattle.abi_types.specs.declared.open_kind.OpenKind.{OpenKind}
 use Rattle.abi_types.specs.declared.open_kind.OpenKind.TheVariants.{File, Directory, End, Terminal, Process}
 use Rattle.abi_types.specs.declared.needed.Needed.{Needed}
@@ -36,7 +37,7 @@ use Rattle.tree_model.specs.Tree.{HasName, entry_of, is_directory, names_in}
 use Rattle.tree_model.specs.declared.fault.TreeFault.{TreeFault}
 use Rattle.kernel_model.specs.Calls.{meaning_of, refusal}
 use Rattle.kernel_model.specs.Families.ClockCalls.{real_time}
-use Rattle.kernel_model.specs.Families.DescriptorCalls.{lowest_free, open_part}
+use Rattle.kernel_model.specs.Families.DescriptorCalls.{lowest_free}
 use Rattle.kernel_model.specs.Families.FileChanges.{modified, node_part, retimed, sized}
 use Rattle.kernel_model.specs.Families.FileMeaning.{on_open, open_of}
 use Rattle.kernel_model.specs.Families.FilePaths.{Walked, Ends, Fails, LeadsOutside, found_part, lookup_mode, walked}
@@ -48,10 +49,11 @@ use Rattle.kernel_model.specs.Families.NameMeaning.{NameMeaning, Refuses, Change
 use Rattle.kernel_model.specs.Families.NameMoving.{link_errno, link_in, linking, move_or_stay, rename_in, renaming, with_link}
 use Rattle.kernel_model.specs.Families.NameRemoving.{named_parts, removes_directory, unlink_errno, unlink_in, unlink_node, unlinking, without_name}
 use Rattle.kernel_model.specs.Families.Numbers.{can_number, new_parts, next_object, object_parts}
+use Rattle.kernel_model.specs.Families.OpenMeaning.{moved_part, touched_at}
 use Rattle.kernel_model.specs.Families.Opening.{Opened, NotOpened, OpenedOutside, Opens, creates, make_file, open_absent, open_at, open_directory, open_end, open_file, open_kind, open_mode, open_node, open_walked, makes_new, opened_descriptor, truncated, truncates, wants_directory}
 use Rattle.kernel_model.specs.Families.Polls.{begins_with_lock, poll_by}
 use Rattle.kernel_model.specs.Families.SocketCalls.{Pair, can_create, count_of, create, create_first, create_if, create_second, made_of, pair, pipe, receiving, sending, shutting, with_first}
-use Rattle.kernel_model.specs.Families.StreamCalls.{reading, seek_row, seeking, written_part}
+use Rattle.kernel_model.specs.Families.StreamCalls.{has_offset, reading, seek_row, seeking, writing, written_part}
 use Rattle.kernel_model.specs.Families.TreeUpdates.{Change, no_change}
 use Rattle.kernel_model.specs.Outcome.{Outcome}
 use Rattle.kernel_model.specs.OwnChanges.{born_of, child_parts, made_parts}
@@ -76,7 +78,7 @@ use Rattle.kernel_model.proofs.Touches.{release_ends, release_keeps}
 use Rattle.confinement_laws.specs.Untouched.{IsTouchedOrMoved, NamesAreTouched}
 use Rattle.confinement_laws.proofs.NewNames.{ComesBy, ComesOf, counted_change_comes, kept_comes, link_comes, move_comes, node_comes, none_comes, outcome_comes, same_comes, same_name, unlink_comes}
 use Rattle.confinement_laws.proofs.Writing.{HasNoTree, NoTree, changed_is_touched, made_is_touched, neither}
-use Rattle.confinement_laws.proofs.WritingCalls.{channel_beside, map_beside, on_open_beside, open_beside, poll_beside, received_beside, sent_beside, shut_beside, stream_beside, waits_tree}
+use Rattle.confinement_laws.proofs.WritingCalls.{channel_beside, map_beside, moved_beside, on_open_beside, open_beside, poll_beside, received_beside, sent_beside, shut_beside, stream_beside, waits_tree}
 
 -- ---- what a name that comes may be of
 
@@ -398,6 +400,12 @@ written_apart (Some (Directory node flags)) d = refl
 written_apart (Some (End reads writes flags form)) d = (channel_beside writes d).1
 written_apart (Some (Process p object)) d = refl
 
+write_apart : (bytes : List ℕ) (S : State) (x : Option Descriptor) (d : ℕ) → has_part (touched_at (writing bytes) S x) (at_names d) ≡ false
+write_apart bytes S None d = refl
+write_apart bytes S (Some x) d =
+    neither (moved_part (has_offset (get S.opens x.id)) x.id) (written_part (get S.opens x.id)) (at_names d) (moved_beside (has_offset (get S.opens x.id)) x.id d).1
+    (written_apart (get S.opens x.id) d)
+
 node_apart : (t : Tree) (kind : Option OpenKind) (d : ℕ) → has_part (node_part t kind) (at_names d) ≡ false
 node_apart t None d = refl
 node_apart t (Some (Terminal which flags)) d = refl
@@ -435,10 +443,7 @@ naming (call.FileUnlink fd path flags) = brings (λ constants S who table. unlin
 naming (call.FileOpen lookup path oflags stat) = brings (λ constants S who table. open_brings constants S who table lookup path oflags stat)
 naming (call.FdCreate2 kind) = sets_none (λ constants S who table d. create_unset (made_of kind) who.pid who.tid (get S.processes who.pid) table d)
 naming (call.ProcFork left) = sets_none (λ constants S who table d. fork_unset left who.pid who.tid (get S.processes who.pid) table d (lowest_free table))
-naming (call.FdWrite fd bytes) =
-    keeps refl (λ S table d.
-    neither (open_part (get table fd)) (written_part (open_of (whole S) (get table fd))) (at_names d) (open_beside (get table fd) d).1
-    (written_apart (open_of (whole S) (get table fd)) d))
+naming (call.FdWrite fd bytes) = keeps refl (λ S table d. write_apart bytes S (get table fd) d)
 naming (call.FdPwrite fd bytes offset) = keeps refl (λ S table d. node_apart (tree_of S) (open_of (whole S) (get table fd)) d)
 naming (call.FileAllocate fd offset length) = keeps refl (λ S table d. node_apart (tree_of S) (open_of (whole S) (get table fd)) d)
 naming (call.FileStatFput fd stat flags) = keeps refl (λ S table d. node_apart (tree_of S) (open_of (whole S) (get table fd)) d)

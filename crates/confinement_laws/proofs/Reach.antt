@@ -63,6 +63,7 @@ module _ (launch : Launch) (front : List Entry) where
     sets = λ U same. confined.sets U (sees_same S U who call valid sees same);
     leaves = λ U V same ends again. confined.leaves U V (sees_same S U who call valid sees same) ends again;
     changes = λ q beyond unmade kept. confined.changes q (beyond_touch S who call q sees beyond unmade, kept);
+    untouched = confined.changes;
   }
 
   module _ (valid : IsValid (world launch front).state) (recorded : SeesByHeld launch front) where

@@ -39,7 +39,7 @@ use Rattle.kernel_model.specs.Families.FileChanges.{asked_size, becomes, becomes
 use Rattle.kernel_model.specs.Families.FileMeaning.{on_open, open_of}
 use Rattle.kernel_model.specs.Families.FilePaths.{Walked, found_part, walked}
 use Rattle.kernel_model.specs.Families.MemoryCalls.{map_row, map_zeros, mapping}
-use Rattle.kernel_model.specs.Families.OpenMeaning.{OpenMeaning, by_open}
+use Rattle.kernel_model.specs.Families.OpenMeaning.{OpenMeaning, by_open, moved_part, touched_at}
 use Rattle.kernel_model.specs.Families.Opening.{absent_parts, open_mode, parts_where}
 use Rattle.kernel_model.specs.Families.Polls.{begins_with_lock, poll_by}
 use Rattle.kernel_model.specs.Families.SocketCalls.{receiving, sending, shutting}
@@ -86,6 +86,10 @@ second_has first second k has =
 
 -- ---- calls that touch nothing of the tree
 
+pub moved_beside : (moves : Bool) (o : ℕ) → HasNoTree (moved_part moves o)
+moved_beside false o n = (refl, refl)
+moved_beside true o n = (refl, refl)
+
 pub open_beside : (d : Option Descriptor) → HasNoTree (open_part d)
 open_beside None n = (refl, refl)
 open_beside (Some d) n = (refl, refl)
@@ -127,10 +131,15 @@ shut_beside (Some (End reads writes flags form)) n =
     both_beside (channel_part reads) (channel_part writes) (channel_beside reads) (channel_beside writes) n
 shut_beside (Some (Process p object)) n = (refl, refl)
 
+touched_beside : (m : OpenMeaning) → ((kind : Option OpenKind) → HasNoTree (m.touched kind)) → (S : State) (d : Option Descriptor)
+    → HasNoTree (touched_at m S d)
+touched_beside m others S None n = (refl, refl)
+touched_beside m others S (Some d) n =
+    both_beside (moved_part (m.moves (get S.opens d.id)) d.id) (m.touched (get S.opens d.id)) (moved_beside (m.moves (get S.opens d.id)) d.id)
+    (others (get S.opens d.id)) n
+
 pub on_open_beside : (row : Needed) (m : OpenMeaning) → ((kind : Option OpenKind) → HasNoTree (m.touched kind)) → NoTree (by_open row m)
-on_open_beside row m others S table =
-    both_beside (open_part (get table row.fd)) (m.touched (open_of (whole S) (get table row.fd))) (open_beside (get table row.fd))
-    (others (open_of (whole S) (get table row.fd)))
+on_open_beside row m others S table = touched_beside m others S (get table row.fd)
 
 pub map_beside : (anonymous : Bool) (place : Place) (row : Needed) (length offset : ℕ)
     → NoTree (cond anonymous (map_zeros place) (on_open row (mapping place length offset)))

@@ -1,5 +1,5 @@
 -- What holds of the history of every run, in one statement.
-use Rattle.std.specs.Prelude.{◌≡◌, ◌⊎◌, ◌↔◌, ◌+◌, ◌<◌, ℕ, suc, Bool, true, false, List, ◌∷◌, ◌++◌, Some, IsSome, slice_get}
+use Rattle.std.specs.Prelude.{◌≡◌, ◌⊎◌, ◌↔◌, ◌+◌, ◌<◌, ℕ, suc, Bool, true, false, List, [], ◌∷◌, ◌++◌, Some, IsSome, slice_get}
 use Rattle.std.specs.FinMap.{get}
 use Rattle.std.specs.List.{AllByRecursion}
 use Rattle.abi_base.specs.Rights.{Has}
@@ -20,8 +20,10 @@ use Rattle.kernel_model.specs.Calls.{named, need}
 use Rattle.kernel_model.specs.Channels.{Channel, Send}
 use Rattle.kernel_model.specs.Need.{has_instead, has_needed, lack_base, lack_inheriting, missing}
 use Rattle.kernel_model.specs.Reply.{denied}
-use Rattle.run_model.specs.Legal.{Legal}
-use Rattle.run_model.specs.World.{world}
+use Rattle.kernel_model.specs.State.{threads_of}
+use Rattle.run_model.specs.Legal.{Asks, Legal}
+use Rattle.run_model.specs.Own.{is_own, IsLiveIn, Made, Same}
+use Rattle.run_model.specs.World.{World, guest_of, who_of, world}
 use Rattle.authority_laws.specs.Deliveries.{IsSend}
 use Rattle.authority_laws.specs.Laws.{IsRecordedEntry, Reports}
 use Rattle.authority_laws.specs.Ledger.{Row}
@@ -101,14 +103,29 @@ pub record RefusalsAreExact (launch : Launch) (front : List Entry) (e : Entry) :
       → IsFirstUnmet (held_before launch front e) (need call) row d → given ≡ answer.Reply (denied (missing d row))
   pub told : (call : Call) (reply : Reply) → Replies e call reply → reply.errno ≡ Notcapable → IsSome reply.denial
 
+-- ---- what other processes have
+
+-- The entry leaves each other process that was made before it, and is live after it, as it was: its memory, registers and turns, its descriptors and what
+-- else is its own, and its status. And what it asks for hangs on its own process's memory, registers, turns and threads alone: in each world that has the
+-- same of these it asks for the same.
+pub record KeepsApart (launch : Launch) (front : List Entry) (e : Entry) : Type 0 where
+  pub leaves : (q : ℕ) → is_own q e ≡ false → Made (world launch front) q → IsLiveIn (world launch (front ++ e ∷ [])) q
+      → Same (world launch (front ++ e ∷ [])) (world launch front) q
+  pub asks : (v : World) → guest_of v e.pid ≡ guest_of (world launch front) e.pid
+      → threads_of v.state e.pid ≡ threads_of (world launch front).state e.pid
+      → Asks v.state (who_of (world launch front).state e) (guest_of v e.pid) e.turns e.act
+
 -- ---- all of it
 
 -- The history of a run: one history, in which each call stands once, with the reply and the effect that the sequential kernel and machine
 -- give there. No entry reads or changes anything but the clock, its process's own state, and what that process's descriptors reach with the
--- rights needed. These are traced through recorded grants. Rights never grow along a grant. And every rights refusal names exactly those missing.
+-- rights needed; a call changes of these only what it touches; and of memories, registers and turns an entry reads and changes its process's
+-- alone. These descriptors are traced through recorded grants. Rights never grow along a grant. And every rights refusal names exactly those
+-- missing.
 pub record IsConfinedHistory (launch : Launch) (history : List Entry) : Type 0 where
   pub sequential : Legal launch history
   pub confined : (front : List Entry) (e : Entry) (rest : List Entry) → history ≡ front ++ e ∷ rest → KeepsWithinReach launch front e
+  pub apart : (front : List Entry) (e : Entry) (rest : List Entry) → history ≡ front ++ e ∷ rest → KeepsApart launch front e
   pub traced : (front rest : List Entry) → history ≡ front ++ rest → DescriptorsAreTraced launch front
   pub never_grow : (front : List Entry) (e : Entry) (rest : List Entry) → history ≡ front ++ e ∷ rest → IsRecordedEntry launch front e
   pub refusals : (front : List Entry) (e : Entry) (rest : List Entry) → history ≡ front ++ e ∷ rest → RefusalsAreExact launch front e

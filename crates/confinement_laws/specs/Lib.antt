@@ -1,7 +1,9 @@
 pub mod Reach
+pub mod ReachLaws
 pub mod Headline
 pub mod Leading
 pub mod Needs
 pub mod Untouched
 pub mod Alike
+pub mod Making
 pub mod Laws

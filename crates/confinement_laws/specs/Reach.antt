@@ -19,7 +19,7 @@ use Rattle.kernel_model.specs.Laws.{EndsAlike}
 use Rattle.kernel_model.specs.Release.{is_released}
 use Rattle.kernel_model.specs.Sight.{process_parts}
 use Rattle.kernel_model.specs.State.{State, Part, has_part, Agree, AgreeOn}
-use Rattle.kernel_model.specs.Step.{made_by, sight, outcome, unreleased, failed, IsStep}
+use Rattle.kernel_model.specs.Step.{made_by, sight, outcome, unreleased, failed, IsStep, IsUntouched}
 use Rattle.kernel_model.specs.WaitLaws.{JumpsTo, ResumesOnly}
 use Rattle.kernel_model.specs.Waits.{resumed}
 use Rattle.kernel_model.specs.Wakes.{is_ready}
@@ -51,6 +51,8 @@ pub record CallKeepsWithin (launch : Launch) (front : List Entry) (constants : C
   -- holds it any more.
   pub changes : (part : Part) → ¬ IsInReach launch front who.pid call part → has_part (made_by S who call) part ≡ false
       → is_released (unreleased constants S who call) part ≡ false → Agree T S part
+  -- Nor does it change all that it may read: what it doesn't touch and what doesn't so end has the value it had.
+  pub untouched : (part : Part) → IsUntouched constants S who call part → Agree T S part
 
 -- A wake keeps to what is in reach of the call that its thread waits in, as it is reached at the wake. By nothing else is the thread ready.
 -- The call is done in the state in which the thread runs, with the word that its lock has now; or, where that or the places of its

@@ -1,7 +1,9 @@
 //! Laws of whole runs. The statements are in `specs/`, and each holds of every launch and history.
 ghost use Rattle.confinement_laws.specs.Alike.{LaunchesRunAlike};
 ghost use Rattle.confinement_laws.specs.Laws.{LegalIsConfinedHistory, MissingIsExact, SightIsDecided};
+ghost use Rattle.confinement_laws.specs.Making.{TracesBeginSo};
 ghost use Rattle.confinement_laws.specs.Needs.{AllNeedsAreListed};
+ghost use Rattle.confinement_laws.specs.ReachLaws.{NothingElseIsInReach};
 ghost use Rattle.confinement_laws.specs.Untouched.{LegalLeavesUnwritten, NamesAreTouched, TreeIsWrittenByRight};
 
 /// What a call sees is decided by what it sees: where each name that it sees is of a node that is there, as in every valid state, it
@@ -22,10 +24,25 @@ pub fn needs_are_listed()
 {}
 
 /// Each legal history of a launch with proper grants is confined: no entry reads or changes anything but the clock, its process's own
-/// state, and what that process's descriptors reach with the rights needed; these are traced through recorded grants, along which
-/// rights never grow; and every refusal for missing rights names exactly those missing.
+/// state, and what that process's descriptors reach with the rights needed; of memories and registers it reads and changes its process's
+/// alone; those descriptors are traced through recorded grants, along which rights never grow; and every refusal for missing rights names
+/// exactly those missing.
 pub fn legal_is_confined_history()
     ensures { LegalIsConfinedHistory }
+{}
+
+/// What is in reach of a call, by the kinds of parts: the clock, what is its process's own, and its status; and beside these what a descriptor
+/// leads to that its process holds by the recorded grants, and that the call may use: with all the rights that the call needs of it, or by name
+/// alone where it needs none. Such a descriptor leads to its open; to the file, or to what names lead to from the directory; to the channels
+/// of an end; to the standard stream; or to the status of the process. Nothing else is in reach.
+pub fn nothing_else_is_in_reach()
+    ensures { NothingElseIsInReach }
+{}
+
+/// A trace that begins with no grant begins with an `fd_create2` or a `proc_fork` of the history, which has made an end of channels or a
+/// process: no other call makes an open that is of nothing in the launch.
+pub fn traces_begin_with_makers()
+    ensures { TracesBeginSo }
 {}
 
 /// What a call touches of the file tree it makes, or it is behind a descriptor of which the call needs a right by which trees are changed,

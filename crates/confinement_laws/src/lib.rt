@@ -8,5 +8,6 @@ pub mod laws;
 
 pub use laws::{
     launches_run_alike, legal_is_confined_history, legal_leaves_unwritten, missing_is_exact,
-    needs_are_listed, sight_is_decided, tree_is_written_by_right,
+    needs_are_listed, nothing_else_is_in_reach, sight_is_decided, traces_begin_with_makers,
+    tree_is_written_by_right,
 };

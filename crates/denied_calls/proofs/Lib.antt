@@ -1,1 +1,2 @@
 pub mod DeniedEntries
+pub mod DenialLaws

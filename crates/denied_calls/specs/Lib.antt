@@ -1,1 +1,2 @@
 pub mod DeniedCalls
+pub mod DenialLaws

@@ -22,6 +22,7 @@ offset_fd _ = None
 abbrev pub no_offset_call : OpenMeaning
 no_offset_call = record {
   effect = λ now v o kind. replies (refused Nosys);
+  moves = λ kind. false;
   touched = λ kind. [];
   errors = Nosys ∷ [];
   takes_memory = false;

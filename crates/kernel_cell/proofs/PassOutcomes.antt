@@ -3,7 +3,7 @@
 --     first_held, held_then, fork_hands      the processes that the keeper holds
 --     answers_busy, own_entered      an entry of the process is its own
 --     asks_here, asks_call_here, is_seen, seen_here, acted_here      what happened to the history is what the pass has seen
---     after_look, live_tells      a look
+--     seen_since, after_look      a look
 use Rattle.std.proofs.Common.{◌≡◌, ℕ, ◌+◌, Bool, false, not, ◌&&◌, List, [], ◌∷◌, ◌++◌, Contains, Option, None, Some, IsTrue, ◌↔◌, refl, sym, ap, subst, ◌∙◌, eqb, eq-eqb, arith, length, length-append}
 use Rattle.std.specs.FinMap.{get}
 use Rattle.abi_types.specs.declared.status.Status.TheVariants.{Live}
@@ -257,15 +257,15 @@ fork_seen launch log after p t body call body' result handed on is =
 pub seen_since : (launch : Launch) (v : Passing) (log : List Entry) → Legal launch log → IsSeen launch v.pid v.seen → Later v.pid v.seen log → IsSeen launch v.pid log
 seen_since launch v log legal was later = record { legal = legal; made = made_since launch v.pid v.seen log legal later was.made }
 
-pub after_look : (launch : Launch) (u v w : Passing) (log : List Entry) → u ≡ v → Legal launch log → IsSeen launch u.pid u.seen → Later u.pid u.seen log
-    → w ≡ record { pid = u.pid; seen = log } → Looked launch v w
-after_look launch u v w log same legal was later is =
-    subst (λ (x : Passing × Passing). Looked launch x.0 x.1) (λ i. (same i, sym is i))
-    (record { pid = refl; seen = seen_since launch u log legal was later; later = later })
-
--- whether the kernel has a process as live is whether its history has
-pub live_tells : (launch : Launch) (kernel : State) (log : List Entry) (b : Bool) (p : ℕ) (v w : Passing) → kernel ≡ (world launch log).state → p ≡ v.pid → w.seen ≡ log
-    → (IsTrue b ↔ (get kernel.statuses p ≡ Some Live)) → (IsTrue b ↔ IsLiveIn (world launch w.seen) v.pid)
-live_tells launch kernel log b p v w state same seen tells =
-    subst (λ (x : State × ℕ). IsTrue b ↔ (get x.0.statuses x.1 ≡ Some Live))
-    (λ i. ((state ∙ sym (ap (λ (h : List Entry). (world launch h).state) seen)) i, same i)) tells
+-- the kernel's state is that of the history that is seen then
+pub after_look : (launch : Launch) (u v w : Passing) (log : List Entry) (kernel : State) (lives : Bool) (moment : ℕ) → u ≡ v → Legal launch log
+    → IsSeen launch u.pid u.seen → Later u.pid u.seen log → w ≡ record { pid = u.pid; seen = log } → kernel ≡ (world launch log).state
+    → (IsTrue lives ↔ (get kernel.statuses u.pid ≡ Some Live)) → moment ≡ kernel.clock → Looked launch v w lives moment
+after_look launch u v w log kernel lives moment same legal was later is state tells now =
+    subst (λ (x : Passing × Passing). Looked launch x.0 x.1 lives moment) (λ i. (same i, sym is i)) (record {
+      pid = refl;
+      seen = seen_since launch u log legal was later;
+      later = later;
+      live = subst (λ (S : State). IsTrue lives ↔ (get S.statuses u.pid ≡ Some Live)) state tells;
+      moment_is = now ∙ ap (λ (S : State). S.clock) state;
+    })

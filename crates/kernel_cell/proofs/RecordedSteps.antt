@@ -1,6 +1,6 @@
 -- What stands behind the lock as an entry is added, read off the kernel, the keeper and what is kept.
 --     kernel_early, log_short, constants_early, live_there, dead_there, few_there      the bounds, and who is live
---     covers, times_there      the process that the keeper holds, and the times that come with an answer
+--     covers, tells_there, told_there      the process that the keeper holds, and the times that are told with an answer
 --     recorded_same      what stands there where no entry came
 --     entered_on, fits_entry, recorded_entry      an entry of any act
 --     call_runs_there, other_there, number_there, call_fits, call_recorded, call_came      a call
@@ -9,9 +9,10 @@
 --     end_fits, end_recorded, end_came      an end from outside
 --     fits_jump, recorded_jump, appends_jump, busy_there, stalled_there      an idle jump
 use Rattle.std.proofs.Common.{◌≡◌, ◌≢◌, inl, inr, ◌+◌, ◌-◌, ◌^◌, ◌<◌, ◌≤◌, ℕ, Bool, true, false, List, [], ◌∷◌, ◌++◌, length, Contains, Option, None, Some, IsSome, IsTrue, ◌↔◌, refl, sym, ap, subst, ◌∙◌, arith}
-use Rattle.std.specs.Prelude.{Result, Ok, Err, IfSome, OnErr, OnOk, is_ok}
+use Rattle.std.specs.Prelude.{Result, Ok, Err, OnErr, OnOk, is_ok}
 use Rattle.std.proofs.lemmas.Bool.Decides.{eqb_tells}
-use Rattle.std.specs.FinMap.{get}
+use Rattle.std.specs.FinMap.{FinMap, get}
+use Rattle.std.specs.Ordering.{nat_cmp}
 use Rattle.abi_types.specs.declared.reply.Answer.{Answer}
 use Rattle.abi_types.specs.declared.call.Call.{Call}
 use Rattle.abi_types.specs.declared.call.Call.TheVariants.{ProcExec, ProcFork, ThreadCreate, ThreadExit}
@@ -46,7 +47,7 @@ use Rattle.kernel_model.specs.Waits.{WaitsIn}
 use Rattle.kernel_model.specs.Wakes.{is_ready, is_ready_as, IsStalled, IsWake as IsWoken, MayJump}
 use Rattle.kernel_model.proofs.Tests.{not_true}
 use Rattle.kernel_model.proofs.ThreadLaws.{create_number}
-use Rattle.guest_process.specs.Room.{HasNumber, HasOther, IsCreate}
+use Rattle.guest_process.specs.Room.{Begins, HasNumber, HasOther, HasThreadFor, IsCreate}
 use Rattle.guest_process.specs.declared.room.NewThread.{NewThread}
 use Rattle.run_model.specs.Ends.{Stalled}
 use Rattle.run_model.specs.Legal.{FitsAct, Fits, IsRunnable}
@@ -64,15 +65,16 @@ use Rattle.shared_history.specs.Entries.{head_of, entry_of, answered_call, idled
 use Rattle.shared_history.specs.Kept.{Takes}
 use Rattle.shared_history.specs.declared.entries.EntryHead.{EntryHead}
 use Rattle.shared_history.specs.declared.kept.Kept.{Kept}
-use Rattle.kernel_cell.specs.Acting.{AreTimes, Became, Entered, GoesOn, HasEnded, HasLeft, HasStarted, IsAlone, IsDead, IsActedOn, IsIdledOn, KeepsBut, MayCome, WaitsOn}
-use Rattle.kernel_cell.specs.Afterwards.{act_of, after_call, after_wake, end_of, if_live, status_of, unless_lost}
-use Rattle.kernel_cell.specs.Asking.{Answers, AsksCall, AsksEnd, AsksWake, HasNoChild}
-use Rattle.kernel_cell.specs.Places.{Threads, with_made, without_place, HasPlace, IsPlaceFor}
+use Rattle.kernel_cell.specs.Acting.{AreIn, AreTimes, AreTold, Became, Entered, GoesOn, HasEnded, HasLeft, HasStarted, IsAlone, IsDead, IsActedOn, IsIdledOn, IsTimed, KeepsBut, MayCome, TellsTimes, WaitsOn, stays}
+use Rattle.kernel_cell.specs.Afterwards.{Threads, act_of, after_call, after_wake, end_of, if_live, status_of, unless_lost, with_made, without_place, HasPlace, IsPlaceFor}
+use Rattle.kernel_cell.specs.Asking.{Answers, AsksCall, AsksEnd, AsksWake, HasNoChild, keeps_worker}
 use Rattle.kernel_cell.specs.Recorded.{IsRecorded}
 use Rattle.kernel_cell.specs.declared.results.After.{After}
+use Rattle.kernel_cell.specs.declared.results.After.TheVariants as to
 use Rattle.kernel_cell.specs.declared.results.Asked.{Asked}
 use Rattle.kernel_cell.specs.declared.results.Asked.TheVariants as asked
 use Rattle.kernel_cell.specs.declared.results.Body.{Body}
+use Rattle.kernel_cell.specs.declared.results.Came.{Came}
 use Rattle.kernel_cell.specs.declared.results.Came.TheVariants as came
 use Rattle.kernel_cell.specs.declared.results.EndBy.{EndBy}
 use Rattle.kernel_cell.specs.declared.results.Idled.TheVariants as idle
@@ -84,6 +86,11 @@ none_ready : (constants : Constants) (S : State) (p t : ℕ) (o : Option Thread)
 none_ready constants S p t None none = refl
 none_ready constants S p t (Some Runnable) none = refl
 none_ready constants S p t (Some (Waits call since until stage)) none = absurd (cc)
+
+-- a thread that keeps its worker goes on
+goes_on_there : (may : Bool) (result : Came After) → stays may result ≡ true → (may ≡ true) × (result ≡ came.Done to.Runs)
+goes_on_there may (came.Done to.Runs) stay = (stay, refl)
+goes_on_there may _ stay = absurd (not_true stay)
 
 -- what a thread is given is given for the call that is kept of it
 pub same_given : (guest : Guest) (t : ℕ) (seen call : Call) (o : Option Call) (given : WakeIn) → Some seen ≡ o → Some call ≡ o
@@ -116,10 +123,16 @@ few_numbers : (o : Option ProcessState) → ((own : ProcessState) → o ≡ Some
 few_numbers None few = omega arith
 few_numbers (Some own) few = let small = few own refl in omega (arith, small)
 
+-- only a thread_create begins a thread
+begins_create : (call : Call) (t : ℕ) (regs : FinMap nat_cmp Registers) → Begins call t regs → IsCreate call
+begins_create (ThreadCreate attributes) t regs begins = tt
+begins_create _ t regs begins = absurd begins
+
 -- the thread that there is room for has not the number t, if the next thread hasn't
-other_number : (t next : ℕ) (thread : Option NewThread) → HasNumber next thread → t ≢ next → HasOther t thread
-other_number t next None number apart = tt
-other_number t next (Some new) number apart = λ same. apart (same ∙ number)
+other_number : (call : Call) (t next : ℕ) (thread : Option NewThread) (regs : FinMap nat_cmp Registers) → HasThreadFor call thread regs
+    → HasNumber next thread → (IsCreate call → t ≢ next) → HasOther t thread
+other_number call t next None regs room number apart = tt
+other_number call t next (Some new) regs room number apart = λ same. apart (begins_create call new.tid regs room) (same ∙ number)
 
 -- a call that makes no child tells none
 pub no_child : (call : Call) (given : Answer) → HasNoChild call → child_told call given ≡ None
@@ -195,16 +208,27 @@ module _ {launch : Launch} {all : Bool} {log : List Entry} {before : State} {con
   pub valid_there : IsValid w.state
   valid_there = world_is_valid launch log r.bounded.begins r.legal
 
-  -- the times that come with an answer, if they do
-  pub times_there : (p q t : ℕ) (h : List Entry) (times : Option Times)
-      → IfSome times (λ told. (told.moment ≡ before.clock) × (told.until ≡ waits_until (thread_of before p t))) → h ≡ log
-      → p ≡ q → IfSome times (AreTimes launch h q t)
-  times_there p q t h None told seen same = tt
-  times_there p q t h (Some times) told seen same =
+  -- the times that are told with an answer
+  pub times_there : (p q t : ℕ) (h : List Entry) (told : Option Times) → AreIn before p t told → h ≡ log → p ≡ q → AreTold launch h q t told
+  times_there p q t h None here seen same = here
+  times_there p q t h (Some times) here seen same =
       subst (λ (x : List Entry × ℕ). AreTimes launch x.0 x.1 t times) (λ i. (sym seen i, same i)) (record {
-        moment = told.0 ∙ ap (λ (S : State). S.clock) r.state;
-        until = told.1 ∙ ap (λ (S : State). waits_until (thread_of S p t)) r.state;
+        moment = here.0 ∙ ap (λ (S : State). S.clock) r.state;
+        until = here.1 ∙ ap (λ (S : State). waits_until (thread_of S p t)) r.state;
       })
+
+  pub tells_there : (p q t : ℕ) (h : List Entry) (what : Asked) (result : Came After) (may stay : Bool) (told told' : Option Times)
+      → IsTimed before p t stay told told' → may ≡ keeps_worker what → stay ≡ stays may result → h ≡ log → p ≡ q
+      → TellsTimes launch h q t what result told told'
+  tells_there p q t h what result may stay told told' (inl here) keeps is seen same = inl (times_there p q t h told' here seen same)
+  tells_there p q t h what result may stay told told' (inr none) keeps is seen same =
+      let goes = goes_on_there may result (sym is ∙ none.1) in
+      inr (none.0, sym keeps ∙ goes.0, goes.1)
+
+  -- they are told where the thread doesn't keep its worker
+  pub told_there : (p q t : ℕ) (h : List Entry) (told told' : Option Times) → IsTimed before p t false told told' → h ≡ log → p ≡ q → AreTold launch h q t told'
+  told_there p q t h told told' (inl here) seen same = times_there p q t h told' here seen same
+  told_there p q t h told told' (inr none) seen same = absurd (not_true none.1)
 
   -- the number of a process's next thread
   pub few_there : (p : ℕ) → next_number before p < 2 ^ 32
@@ -278,15 +302,19 @@ module _ {launch : Launch} {all : Bool} {log : List Entry} {before : State} {con
     call_runs_there = subst (λ (S : State). IsRunnable S p t) (sym r.state) (call_runnable w p t turns guest call a)
 
     -- the thread that there is room for is another
-    pub other_there : (next : ℕ) (thread : Option NewThread) → next ≡ next_number before p → HasNumber next thread → HasOther t thread
-    other_there next thread is number =
-        other_number t next thread number (next_there p t next is (subst IsSome (sym (call_runnable w p t turns guest call a)) refl))
+    pub other_there : (next : ℕ) (thread : Option NewThread) (regs : FinMap nat_cmp Registers) → (IsCreate call → next ≡ next_number before p)
+        → HasThreadFor call thread regs → HasNumber next thread → HasOther t thread
+    other_there next thread regs is room number =
+        other_number call t next thread regs room number
+        (λ creates. next_there p t next (is creates) (subst IsSome (sym (call_runnable w p t turns guest call a)) refl))
 
     -- and the one that is made, if one is
     pub number_there : (given : Answer) (kernel : State) (next : ℕ) (thread : Option NewThread)
-        → IsStep constants before (caller before p t) call given kernel → next ≡ next_number before p → HasNumber next thread → makes_thread call given ≡ true → HasNumber (first_result given) thread
+        → IsStep constants before (caller before p t) call given kernel → (IsCreate call → next ≡ next_number before p) → HasNumber next thread
+        → makes_thread call given ≡ true → HasNumber (first_result given) thread
     number_there given kernel next thread step is number makes =
-        subst (λ n. HasNumber n thread) (is ∙ sym (create_number constants before (caller before p t) call given kernel step makes).0) number
+        subst (λ n. HasNumber n thread)
+        (is (makes_create call given makes) ∙ sym (create_number constants before (caller before p t) call given kernel step makes).0) number
 
     module _ (given : Answer) (kernel : State) (head : EntryHead) (head_is : head ≡ head_of kernel.clock p t turns)
         (step : IsStep constants before (caller before p t) call given kernel) (live : IsLiveIn w p) where
@@ -371,16 +399,16 @@ module _ {launch : Launch} {all : Bool} {log : List Entry} {before : State} {con
                 | inr apart ↦ call_keeps launch log p t turns call given guest kernel a step_there (makes_stays call given makes) on u apart.1 (λ _. old)
               ]
 
-          starts_call : (next : ℕ) → next ≡ next_number before p → get kernel.statuses p ≡ Some Live → is_parked given ≡ false
+          starts_call : (next : ℕ) → (IsCreate call → next ≡ next_number before p) → get kernel.statuses p ≡ Some Live → is_parked given ≡ false
               → makes_thread call given ≡ true → HasStarted launch log after p next
           starts_call next number on replies makes =
               let made = call_makes launch log p t turns call given guest kernel a step_there makes on in
-              subst (HasStarted launch log after p) (sym (numbered_there p next number))
+              subst (HasStarted launch log after p) (sym (numbered_there p next (number (makes_create call given makes))))
               (after_this (λ h. HasStarted launch log h p (next_number w.state p))
               (entry_starts launch log p t turns call_act kernel leaves_call (next_number w.state p) made.0 refl made.1
               (keeps_maker on replies makes)))
 
-          became_by : (next : ℕ) → next ≡ next_number before p → (lives parks makes ends begins : Bool) → is_parked given ≡ parks
+          became_by : (next : ℕ) → (IsCreate call → next ≡ next_number before p) → (lives parks makes ends begins : Bool) → is_parked given ≡ parks
               → makes_thread call given ≡ makes → ends_caller call given ≡ ends → ends_others call given ≡ begins
               → (IsTrue lives ↔ (get kernel.statuses p ≡ Some Live))
               → Became launch log p t after guest' call_act (if_live lives (end_of parks makes ends begins next))
@@ -403,7 +431,7 @@ module _ {launch : Launch} {all : Bool} {log : List Entry} {before : State} {con
 
         -- where there was no memory for a program, its entry came
         became_or_lost : {X E : Type 0} (guest' : Guest) (begun : Result X E) → OnOk begun (guest' ≡ answered_guest p guest t call given)
-            → OnErr begun (ends_others call given ≡ true) → (lives : Bool) (next : ℕ) → next ≡ next_number before p
+            → OnErr begun (ends_others call given ≡ true) → (lives : Bool) (next : ℕ) → (IsCreate call → next ≡ next_number before p)
             → (IsTrue lives ↔ (get kernel.statuses p ≡ Some Live))
             → Became launch log p t after guest' call_act (unless_lost (is_ok begun) (if_live lives (after_call call given next)))
         became_or_lost guest' (Ok done) is begins lives next number on =
@@ -412,7 +440,7 @@ module _ {launch : Launch} {all : Bool} {log : List Entry} {before : State} {con
 
         pub call_came : {X E : Type 0} (guest' : Guest) (begun : Result X E) → OnOk begun (guest' ≡ answered_guest p guest t call given)
             → OnErr begun (ends_others call given ≡ true) → (result end : After) (lives : Bool) (next : ℕ) (threads threads' made : Threads) (none : List ℕ) (placed : Bool)
-            → result ≡ unless_lost (is_ok begun) (if_live lives end) → end ≡ after_call call given next → next ≡ next_number before p
+            → result ≡ unless_lost (is_ok begun) (if_live lives end) → end ≡ after_call call given next → (IsCreate call → next ≡ next_number before p)
             → (IsTrue lives ↔ (get kernel.statuses p ≡ Some Live)) → none ≡ [] → HasPlace call next threads placed made
             → threads' ≡ with_made result (without_place next placed made)
             → IsActedOn launch log p t (record { guest = guest; threads = threads; turns = turns }) (asked.Calls call)

@@ -1,9 +1,9 @@
 -- What a thread asks the locked kernel for, and which acts answer that.
-use Rattle.std.specs.Prelude.{◌≡◌, ℕ, List, IsSome}
+use Rattle.std.specs.Prelude.{◌≡◌, ℕ, Bool, true, false, List, IsSome}
 use Rattle.std.specs.FinMap.{get}
 use Rattle.abi_types.specs.declared.reply.Answer.{Answer}
 use Rattle.abi_types.specs.declared.call.Call.{Call}
-use Rattle.abi_types.specs.declared.call.Call.TheVariants.{ProcFork}
+use Rattle.abi_types.specs.declared.call.Call.TheVariants.{ProcFork, ThreadYield}
 use Rattle.abi_types.specs.declared.thread.Thread.{Thread}
 use Rattle.abi_types.specs.declared.wake.WakeIn.{WakeIn}
 use Rattle.run_types.specs.declared.history.Act.{Act}
@@ -62,6 +62,12 @@ abbrev pub Answers : Asked → Act → Type 0
 Answers (asked.Calls call) a = (given : Answer) × (a ≡ act.Call call given)
 Answers asked.Wakes a = (call : Call) × (given : WakeIn) × (answered : Answer) × (a ≡ act.Wake call given answered)
 Answers (asked.Ends how) a = a ≡ act_of how
+
+-- whether a thread that asks for this keeps its worker, where it goes on: it makes a call by which it doesn't give way
+abbrev pub keeps_worker : Asked → Bool
+keeps_worker (asked.Calls ThreadYield) = false
+keeps_worker (asked.Calls call) = true
+keeps_worker what = false
 
 -- it is a wake
 abbrev pub IsWake : Asked → Type 0

@@ -1,5 +1,4 @@
 pub mod Afterwards
-pub mod Places
 pub mod Asking
 pub mod Acting
 pub mod Handing

@@ -1,21 +1,24 @@
-//! What an answer leaves of a thread and of its process, and which child it tells.
-ghost use Rattle.std.specs.Prelude.{◌≡◌, ℕ, None, IfOk, IfSome, IsNone, IsSome, is_ok};
+//! What a call leaves of its process's threads: what became of the one that made it, the place of the one that it made, and the child that it
+//! made. Places are made before the call, since the call's entry stands whatever comes after it.
+ghost use Rattle.std.specs.Prelude.{◌≡◌, ◌^◌, ◌<◌, ℕ, None, IfOk, IfSome, IsNone, IsSome, OnErr, is_ok};
 ghost use Rattle.std.specs.FinMap as map;
 ghost use Rattle.abi_types.specs.declared.call.Call.TheVariants as call;
 ghost use Rattle.abi_types.specs.declared.constants.Constants.{Constants};
 ghost use Rattle.abi_types.specs.declared.reply.Answer.{Answer};
 ghost use Rattle.run_model.specs.World.{child_guest};
+ghost use Rattle.guest_process.specs.Room.{IsCreate};
 ghost use Rattle.kernel_core.specs.Waiting.{caller};
 ghost use Rattle.kernel_model.specs.Outcome.{is_parked};
 ghost use Rattle.kernel_model.specs.State.{State};
 ghost use Rattle.kernel_model.specs.Step.{IsStep};
-ghost use Rattle.kernel_model.specs.Threads.{child_told};
-ghost use Rattle.kernel_cell.specs.Afterwards.{act_of, after_call, after_wake, end_of, if_live, status_of, unless_lost};
+ghost use Rattle.kernel_model.specs.Threads.{child_told, next_number};
+ghost use Rattle.kernel_cell.specs.Afterwards.{act_of, after_call, after_wake, end_of, if_live, status_of, unless_lost, with_made, without_place, HasPlace, IsPlaceFor};
 
-use crate::results::{After, EndBy};
+use crate::results::{After, Doing, EndBy};
 use abi_types::{Answer, Call, Payload, Pid, Signal, Status, Tid};
 use guest_process::{Guest, begins_program, ends_caller, makes_thread};
 use kernel_core::Kernel;
+use maps::NumMap;
 use run_types::Act;
 use std::alloc::{AllocError, Global};
 
@@ -133,4 +136,57 @@ pub(crate) fn child_guest(
     }
     let child = guest.fork(alloc, tid)?;
     Ok(Some(child))
+}
+
+// The number of the thread that the call may make. Other calls make none, and get a number that no thread has.
+pub(crate) fn number_for(kernel: &Kernel, pid: Pid, call: &Call) -> Tid
+    requires few { next_number kernel.now pid < 2 ^ 32 }
+    ensures { IsCreate call.now → result ≡ next_number kernel.now pid }
+{
+    match call {
+        Call::ThreadCreate { .. } => kernel.next_thread(pid),
+        _ => Tid(0),
+    }
+}
+
+// Makes a place for the thread that the call may make, which gets the number `next`. Whether one was put in. `Err` changes nothing.
+pub(crate) fn make_place(
+    threads: &mut NumMap<Doing>,
+    call: &Call,
+    next: Tid,
+) -> Result<bool, AllocError>
+    ensures ok { IfOk result (λ placed. HasPlace call.now next threads.old placed threads.new) }
+    ensures err { OnErr result (threads.new ≡ threads.old) }
+{
+    let Call::ThreadCreate { .. } = call else {
+        return Ok(false);
+    };
+    let key = u64::from(next.0);
+    if threads.contains(key) {
+        return Ok(false);
+    }
+    threads.insert(key, Doing::Runs)?;
+    Ok(true)
+}
+
+// Takes the place out again, where one was put in.
+pub(crate) fn leave_place(threads: &mut NumMap<Doing>, next: Tid, placed: bool)
+    ensures { threads.new ≡ without_place next placed threads.old }
+{
+    if placed {
+        threads.remove(u64::from(next.0));
+    }
+}
+
+// Leaves the place to the thread that was made, and takes it out where none was.
+pub(crate) fn keep_place(threads: &mut NumMap<Doing>, next: Tid, placed: bool, after: &After)
+    requires { IsPlaceFor next threads.old after.now }
+    ensures { threads.new ≡ with_made after.now (without_place next placed threads.old) }
+{
+    match after {
+        After::Starts(_) => {
+            threads.replace(u64::from(next.0), Doing::Runs);
+        }
+        _ => leave_place(threads, next, placed),
+    }
 }

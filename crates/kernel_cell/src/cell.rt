@@ -1,16 +1,14 @@
 //! The kernel behind its lock, as threads share it, from the begin of a run to its book.
-ghost use Rattle.std.specs.Prelude.{◌≡◌, ◌↔◌, [], IfOk, IfSome, IsTrue};
+ghost use Rattle.std.specs.Prelude.{◌≡◌, [], IfOk};
 ghost use Rattle.call_codec.specs.Bounded.{IsBounded};
-ghost use Rattle.run_model.specs.Own.{IsLiveIn};
 ghost use Rattle.run_model.specs.World.{world};
 ghost use Rattle.guest_process.specs.Children.{IsFork};
-ghost use Rattle.kernel_cell.specs.declared.results.Asked.TheVariants as asked;
-ghost use Rattle.kernel_cell.specs.Acting.{AreTimes, IsActed, IsForked, Looked};
+ghost use Rattle.kernel_cell.specs.Acting.{AreTold, IsActed, IsForked, Looked, TellsTimes};
 ghost use Rattle.kernel_cell.specs.Asking.{Asks, AsksCall};
 ghost use Rattle.kernel_cell.specs.Cell.{IsBookOf};
 
 use crate::locked::Locked;
-use crate::results::{After, Asked, Body, Came, EndBy, Idled, Times};
+use crate::results::{After, Asked, Body, Came, Idled, Times};
 use abi_types::{Call, Tid};
 use atomic_table::{Seat, Table};
 use guest_process::{FIRST, Guest};
@@ -108,13 +106,13 @@ struct Guarded<J: Naming> {
 impl<J: Naming> Model for Guarded<J> {
     ghost use Rattle.std.specs.Prelude.{List};
     ghost use Rattle.run_types.specs.declared.history.Entry.{Entry};
-    ghost use Rattle.kernel_cell.specs.Recorded.{IsRecorded};
+    ghost use Rattle.kernel_cell.specs.Recorded.{IsInOrder};
 
     ghost Value = { List Entry };
 
     ghost view = { λ g. g.locked.keeper.log };
 
-    ghost invariant = { λ g. IsRecorded J.launch J.keeps_all g.locked.keeper.log g.locked.kernel g.locked.constants g.locked.kept };
+    ghost invariant = { λ g. IsInOrder J.launch J.keeps_all g.locked };
 }
 
 /// A run's kernel with its history behind a lock, and the table of its passes. The threads of a run share it.
@@ -143,24 +141,26 @@ impl<J: Naming> Cell<J> {
         &self.launch
     }
 
-    /// A thread's call, which is no proc_fork, after the turns of its process that no entry has yet. Its guest is the process's at that call,
-    /// and gets the answer.
+    /// What a thread asks for, which is no proc_fork, after the turns of its process that no entry has yet: its guest, which is the process's at
+    /// that, gets the answer to its call. Where the thread waits, that is the call that it waits in, and the answer is a reply, or the words that
+    /// are written where it waits on.
     pub fn act<R: Wait>(
         &self,
         rt: &R,
         pass: &mut Pass<J>,
         body: &mut Body,
         tid: Tid,
-        call: Call,
-    ) -> (Came<After>, Option<Times>)
-        requires { Asks (world J.launch pass.old.seen) pass.old.pid tid body.old (asked.Calls call) }
-        ensures acted { IsActed J.launch pass.old tid body.old (asked.Calls call) body.new pass.new result.0 }
-        ensures times { IfSome result.1 (AreTimes J.launch pass.new.seen pass.old.pid tid) }
+        what: Asked,
+        told: &mut Option<Times>,
+    ) -> Came<After>
+        requires { Asks (world J.launch pass.old.seen) pass.old.pid tid body.old what }
+        ensures acted { IsActed J.launch pass.old tid body.old what body.new pass.new result }
+        ensures times { TellsTimes J.launch pass.new.seen pass.old.pid tid what result told.old told.new }
     {
         self.guarded
             .lock(rt)
             .locked
-            .act(&self.passes, pass, body, tid, Asked::Calls(call))
+            .act(&self.passes, pass, body, tid, what, told)
     }
 
     /// A thread's proc_fork, after the turns of its process that no entry has yet. Its guest is the process's at that call, and gets the
@@ -172,54 +172,17 @@ impl<J: Naming> Cell<J> {
         body: &mut Body,
         tid: Tid,
         call: Call,
-    ) -> (Came<Option<(Pass<J>, Guest)>>, Option<Times>)
+        told: &mut Option<Times>,
+    ) -> Came<Option<(Pass<J>, Guest)>>
         requires asks { AsksCall (world J.launch pass.old.seen) pass.old.pid tid body.old.turns body.old.guest call }
         requires fork { IsFork call }
-        ensures forked { IsForked J.launch pass.old tid body.old call body.new pass.new result.0 }
-        ensures times { IfSome result.1 (AreTimes J.launch pass.new.seen pass.old.pid tid) }
+        ensures forked { IsForked J.launch pass.old tid body.old call body.new pass.new result }
+        ensures times { AreTold J.launch pass.new.seen pass.old.pid tid told.new }
     {
         self.guarded
             .lock(rt)
             .locked
-            .fork(&self.passes, pass, body, tid, call)
-    }
-
-    /// The wake of a thread that waits, after the turns of its process that no entry has yet. Its guest is the process's after them, and gets
-    /// the answer to the call that the thread waited in: a reply, or the words that are written where the thread waits on.
-    pub fn wake<R: Wait>(
-        &self,
-        rt: &R,
-        pass: &mut Pass<J>,
-        body: &mut Body,
-        tid: Tid,
-    ) -> (Came<After>, Option<Times>)
-        requires { Asks (world J.launch pass.old.seen) pass.old.pid tid body.old asked.Wakes }
-        ensures woken { IsActed J.launch pass.old tid body.old asked.Wakes body.new pass.new result.0 }
-        ensures times { IfSome result.1 (AreTimes J.launch pass.new.seen pass.old.pid tid) }
-    {
-        self.guarded
-            .lock(rt)
-            .locked
-            .act(&self.passes, pass, body, tid, Asked::Wakes)
-    }
-
-    /// The end of a thread's process from outside, after the turns of it that no entry has yet.
-    pub fn end<R: Wait>(
-        &self,
-        rt: &R,
-        pass: &mut Pass<J>,
-        body: &mut Body,
-        tid: Tid,
-        how: EndBy,
-    ) -> (Came<After>, Option<Times>)
-        requires { Asks (world J.launch pass.old.seen) pass.old.pid tid body.old (asked.Ends how) }
-        ensures ended { IsActed J.launch pass.old tid body.old (asked.Ends how) body.new pass.new result.0 }
-        ensures times { IfSome result.1 (AreTimes J.launch pass.new.seen pass.old.pid tid) }
-    {
-        self.guarded
-            .lock(rt)
-            .locked
-            .act(&self.passes, pass, body, tid, Asked::Ends(how))
+            .fork(&self.passes, pass, body, tid, call, told)
     }
 
     /// Lets time go to the next deadline where no thread takes turns or is ready. With what became of it comes the moment then.
@@ -229,8 +192,7 @@ impl<J: Naming> Cell<J> {
 
     /// Whether the pass's process is live, and the moment now.
     pub fn look<R: Wait>(&self, rt: &R, pass: &mut Pass<J>) -> (bool, u64)
-        ensures pass { Looked J.launch pass.old pass.new }
-        ensures live { IsTrue result.0 ↔ IsLiveIn (world J.launch pass.new.seen) pass.old.pid }
+        ensures { Looked J.launch pass.old pass.new result.0 result.1 }
     {
         self.guarded.lock(rt).locked.look(&self.passes, pass)
     }

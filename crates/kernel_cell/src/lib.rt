@@ -10,6 +10,5 @@ pub use shared_history::{Kept, Naming, Pass, Passes, Past};
 mod afterwards;
 mod cell;
 mod locked;
-mod places;
 mod record;
 mod results;

@@ -1,26 +1,24 @@
 //! The kernel with its history: what threads ask for is done by the kernel, and becomes an entry. Each call here takes a process's pass in,
 //! does what it does, and hands the pass out again.
-ghost use Rattle.std.specs.Prelude.{◌≡◌, ◌↔◌, [], ◌∷◌, IfSome, IsTrue};
+ghost use Rattle.std.specs.Prelude.{◌≡◌, [], ◌∷◌};
 ghost use Rattle.guest_process.specs.Children.{IsFork};
-ghost use Rattle.kernel_core.specs.Waiting.{waits_until};
-ghost use Rattle.kernel_model.specs.State.{thread_of};
 ghost use Rattle.run_model.specs.Own.{IsLiveIn};
 ghost use Rattle.run_model.specs.World.{world};
 ghost use Rattle.shared_history.specs.Kept.{HasRoom};
 ghost use Rattle.kernel_cell.specs.declared.results.Asked.TheVariants as asked;
-ghost use Rattle.kernel_cell.specs.Acting.{AreTimes, HasEnded, Looked, IsActed, IsActedOn, IsForked, IsForkedOn, IsIdledOn};
-ghost use Rattle.kernel_cell.specs.Asking.{Asks, AsksCall, AsksEnd, AsksWake, HasNoChild};
+ghost use Rattle.kernel_cell.specs.Acting.{stays, AreTold, HasEnded, Looked, IsActed, IsActedOn, IsForked, IsForkedOn, IsIdledOn, IsTimed, TellsTimes};
+ghost use Rattle.kernel_cell.specs.Asking.{keeps_worker, Asks, AsksCall, AsksEnd, AsksWake, HasNoChild};
 ghost use Rattle.kernel_cell.specs.Handing.{held_after, held_without, with_pass, MayHandOut};
-ghost use Rattle.kernel_cell.specs.Recorded.{IsRecorded};
+ghost use Rattle.kernel_cell.specs.Recorded.{IsInOrder};
 
 use crate::afterwards::{
-    act_of, after_call, after_wake, child_guest, child_told, if_live, status_of, unless_lost,
+    act_of, after_call, after_wake, child_guest, child_told, if_live, keep_place, leave_place,
+    make_place, number_for, status_of, unless_lost,
 };
-use crate::places::{keep_place, leave_place, make_place};
 use crate::results::{After, Asked, Body, Came, EndBy, Idled, Times};
 use abi_types::{Call, Constants, Pid, Tid, TidList};
 use guest_process::Guest;
-use kernel_core::Kernel;
+use kernel_core::{Kernel, Woken};
 use shared_history::{EntryHead, Keeper, Kept, Naming, Pass, Passes, idle_entry};
 use std::alloc::Global;
 use std::mem;
@@ -37,29 +35,39 @@ pub struct Locked<J: Naming> {
 }
 
 // Whether a thread that asks for this keeps its worker, where it goes on.
-fn keeps_worker(what: &Asked) -> bool {
-    matches!(what, Asked::Calls(call) if !matches!(call, Call::ThreadYield))
+fn keeps_worker(what: &Asked) -> bool
+    ensures { result ≡ keeps_worker what.now }
+{
+    match what {
+        Asked::Calls(call) => !matches!(call, Call::ThreadYield),
+        _ => false,
+    }
 }
 
-// Whether a thread goes on of which this came.
-fn goes_on(came: &Came<After>) -> bool {
-    matches!(came, Came::Done(After::Runs))
+// Whether a thread of which this came keeps its worker, if it may.
+fn stays(may: bool, came: &Came<After>) -> bool
+    ensures { result ≡ stays may came.now }
+{
+    match came {
+        Came::Done(After::Runs) => may,
+        _ => false,
+    }
 }
 
-// The moment now, until when a thread waits, and the threads to be looked at again, which none is then. `None` where the thread keeps its
-// worker, and where none is to be looked at.
-fn times(kernel: &mut Kernel, pid: Pid, tid: Tid, stays: bool) -> Option<Times>
-    ensures told { IfSome result (λ times. (times.moment ≡ kernel.old.clock) × (times.until ≡ waits_until (thread_of kernel.old pid tid))) }
+// Tells the moment now, until when a thread waits, and the threads to be looked at again, which none is then. Nothing new is told where the
+// thread keeps its worker and none is to be looked at.
+fn tell_times(kernel: &mut Kernel, pid: Pid, tid: Tid, stays: bool, told: &mut Option<Times>)
+    ensures told { IsTimed kernel.old pid tid stays told.old told.new }
     ensures same { kernel.new ≡ kernel.old }
 {
     if stays && !kernel.has_wakes() {
-        return None;
+        return;
     }
-    Some(Times {
+    *told = Some(Times {
         moment: kernel.moment(),
         until: kernel.until(pid, tid),
         wakes: kernel.take_wakes(),
-    })
+    });
 }
 
 // The pass and the guest of the child, if there is one, whose pass the keeper hands out.
@@ -93,23 +101,25 @@ impl<J: Naming> Locked<J> {
         body: &mut Body,
         tid: Tid,
         what: Asked,
-    ) -> (Came<After>, Option<Times>)
-        requires recorded { IsRecorded J.launch J.keeps_all self.old.keeper.log self.old.kernel self.old.constants self.old.kept }
+        told: &mut Option<Times>,
+    ) -> Came<After>
+        requires recorded { IsInOrder J.launch J.keeps_all self.old }
         requires asks { Asks (world J.launch pass.old.seen) pass.old.pid tid body.old what }
-        ensures recorded { IsRecorded J.launch J.keeps_all self.new.keeper.log self.new.kernel self.new.constants self.new.kept }
-        ensures pass { IsActed J.launch pass.old tid body.old what body.new pass.new result.0 }
-        ensures history { IsActedOn J.launch self.old.keeper.log pass.old.pid tid body.old what body.new self.new.keeper.log result.0 }
+        ensures recorded { IsInOrder J.launch J.keeps_all self.new }
+        ensures pass { IsActed J.launch pass.old tid body.old what body.new pass.new result }
+        ensures history { IsActedOn J.launch self.old.keeper.log pass.old.pid tid body.old what body.new self.new.keeper.log result }
         ensures seen { pass.new.seen ≡ self.new.keeper.log }
-        ensures times { IfSome result.1 (AreTimes J.launch pass.new.seen pass.old.pid tid) }
+        ensures times { TellsTimes J.launch pass.new.seen pass.old.pid tid what result told.old told.new }
     {
         let pid = pass.pid;
         self.keeper
             .take_in(passes, Pass::lent(pid, &mut pass.badge));
-        let keeps = keeps_worker(&what);
+        let may = keeps_worker(&what);
         let came = self.enter(passes, pid, tid, body, what);
         *pass = self.keeper.hand_out(passes, pid);
-        let stays = keeps && goes_on(&came);
-        (came, times(&mut self.kernel, pid, tid, stays))
+        let stays = stays(may, &came);
+        tell_times(&mut self.kernel, pid, tid, stays, told);
+        came
     }
 
     // The same, while the keeper holds the process. The room for the entry is taken before.
@@ -121,10 +131,10 @@ impl<J: Naming> Locked<J> {
         body: &mut Body,
         what: Asked,
     ) -> Came<After>
-        requires recorded { IsRecorded J.launch J.keeps_all self.old.keeper.log self.old.kernel self.old.constants self.old.kept }
+        requires recorded { IsInOrder J.launch J.keeps_all self.old }
         requires held { self.old.keeper.held ≡ pid ∷ [] }
         requires asks { IsLiveIn (world J.launch self.old.keeper.log) pid → Asks (world J.launch self.old.keeper.log) pid tid body.old what }
-        ensures recorded { IsRecorded J.launch J.keeps_all self.new.keeper.log self.new.kernel self.new.constants self.new.kept }
+        ensures recorded { IsInOrder J.launch J.keeps_all self.new }
         ensures held { self.new.keeper.held ≡ pid ∷ [] }
         ensures came { IsActedOn J.launch self.old.keeper.log pid tid body.old what body.new self.new.keeper.log result }
     {
@@ -167,17 +177,17 @@ impl<J: Naming> Locked<J> {
         body: &mut Body,
         call: Call,
     ) -> Came<After>
-        requires recorded { IsRecorded J.launch J.keeps_all self.old.keeper.log self.old.kernel self.old.constants self.old.kept }
+        requires recorded { IsInOrder J.launch J.keeps_all self.old }
         requires held { self.old.keeper.held ≡ pid ∷ [] }
         requires room { HasRoom self.old.kept }
         requires live { IsLiveIn (world J.launch self.old.keeper.log) pid }
         requires asks { AsksCall (world J.launch self.old.keeper.log) pid tid body.old.turns body.old.guest call }
         requires plain { HasNoChild call }
-        ensures recorded { IsRecorded J.launch J.keeps_all self.new.keeper.log self.new.kernel self.new.constants self.new.kept }
+        ensures recorded { IsInOrder J.launch J.keeps_all self.new }
         ensures held { self.new.keeper.held ≡ pid ∷ [] }
         ensures came { IsActedOn J.launch self.old.keeper.log pid tid body.old (asked.Calls call) body.new self.new.keeper.log result }
     {
-        let next = self.kernel.next_thread(pid);
+        let next = number_for(&self.kernel, pid, &call);
         let Ok(placed) = make_place(&mut body.threads, &call, next) else {
             return Came::NoMemory;
         };
@@ -198,14 +208,14 @@ impl<J: Naming> Locked<J> {
     }
 
     // The wake of a thread, whose guest gets the answer to the call that the thread waited in: a reply, or the words that are written where
-    // the thread waits on.
+    // the thread waits on. Where the kernel had no memory for it nothing changes, so the thread keeps its lock or its signal.
     fn wake(&mut self, passes: &Passes<J>, pid: Pid, tid: Tid, body: &mut Body) -> Came<After>
-        requires recorded { IsRecorded J.launch J.keeps_all self.old.keeper.log self.old.kernel self.old.constants self.old.kept }
+        requires recorded { IsInOrder J.launch J.keeps_all self.old }
         requires held { self.old.keeper.held ≡ pid ∷ [] }
         requires room { HasRoom self.old.kept }
         requires live { IsLiveIn (world J.launch self.old.keeper.log) pid }
         requires asks { AsksWake (world J.launch self.old.keeper.log) pid tid body.old.turns body.old.guest }
-        ensures recorded { IsRecorded J.launch J.keeps_all self.new.keeper.log self.new.kernel self.new.constants self.new.kept }
+        ensures recorded { IsInOrder J.launch J.keeps_all self.new }
         ensures held { self.new.keeper.held ≡ pid ∷ [] }
         ensures came { IsActedOn J.launch self.old.keeper.log pid tid body.old asked.Wakes body.new self.new.keeper.log result }
     {
@@ -213,26 +223,29 @@ impl<J: Naming> Locked<J> {
             return Came::NotReady;
         };
         let given = body.guest.given(tid, kept);
-        let Some((call, answer)) = self.kernel.wake(&self.constants, pid, tid, given) else {
-            return Came::NotReady;
-        };
-        body.guest.answer_woken(tid, &call, &answer);
-        let after = after_wake(&answer);
-        let head = self.head(pid, tid, &mut body.turns);
-        self.keeper
-            .append_call(passes, &head, &call, Some(given), &answer);
-        self.kept.take_call(head, call, Some(given), answer);
-        Came::Done(if_live(self.kernel.live(pid), after))
+        match self.kernel.wake(&self.constants, pid, tid, given) {
+            Woken::NotReady => Came::NotReady,
+            Woken::NoMemory => Came::NoMemory,
+            Woken::Done { call, answer } => {
+                body.guest.answer_woken(tid, &call, &answer);
+                let after = after_wake(&answer);
+                let head = self.head(pid, tid, &mut body.turns);
+                self.keeper
+                    .append_call(passes, &head, &call, Some(given), &answer);
+                self.kept.take_call(head, call, Some(given), answer);
+                Came::Done(if_live(self.kernel.live(pid), after))
+            }
+        }
     }
 
     // The end of a process from outside, by a thread of it.
     fn end(&mut self, passes: &Passes<J>, pid: Pid, tid: Tid, turns: &mut TidList, how: EndBy)
-        requires recorded { IsRecorded J.launch J.keeps_all self.old.keeper.log self.old.kernel self.old.constants self.old.kept }
+        requires recorded { IsInOrder J.launch J.keeps_all self.old }
         requires held { self.old.keeper.held ≡ pid ∷ [] }
         requires room { HasRoom self.old.kept }
         requires live { IsLiveIn (world J.launch self.old.keeper.log) pid }
         requires asks { AsksEnd (world J.launch self.old.keeper.log) pid tid turns.old how }
-        ensures recorded { IsRecorded J.launch J.keeps_all self.new.keeper.log self.new.kernel self.new.constants self.new.kept }
+        ensures recorded { IsInOrder J.launch J.keeps_all self.new }
         ensures held { self.new.keeper.held ≡ pid ∷ [] }
         ensures ended { HasEnded J.launch self.old.keeper.log pid tid turns.old how self.new.keeper.log }
         ensures none { turns.new ≡ [] }
@@ -252,14 +265,15 @@ impl<J: Naming> Locked<J> {
         body: &mut Body,
         tid: Tid,
         call: Call,
-    ) -> (Came<Option<(Pass<J>, Guest)>>, Option<Times>)
-        requires recorded { IsRecorded J.launch J.keeps_all self.old.keeper.log self.old.kernel self.old.constants self.old.kept }
+        told: &mut Option<Times>,
+    ) -> Came<Option<(Pass<J>, Guest)>>
+        requires recorded { IsInOrder J.launch J.keeps_all self.old }
         requires asks { AsksCall (world J.launch pass.old.seen) pass.old.pid tid body.old.turns body.old.guest call }
         requires fork { IsFork call }
-        ensures recorded { IsRecorded J.launch J.keeps_all self.new.keeper.log self.new.kernel self.new.constants self.new.kept }
-        ensures pass { IsForked J.launch pass.old tid body.old call body.new pass.new result.0 }
+        ensures recorded { IsInOrder J.launch J.keeps_all self.new }
+        ensures pass { IsForked J.launch pass.old tid body.old call body.new pass.new result }
         ensures seen { pass.new.seen ≡ self.new.keeper.log }
-        ensures times { IfSome result.1 (AreTimes J.launch pass.new.seen pass.old.pid tid) }
+        ensures times { AreTold J.launch pass.new.seen pass.old.pid tid told.new }
     {
         let pid = pass.pid;
         self.keeper
@@ -267,7 +281,8 @@ impl<J: Naming> Locked<J> {
         let forked = self.make_child(passes, pid, tid, body, call);
         let child = with_pass(&mut self.keeper, passes, forked);
         *pass = self.keeper.hand_out(passes, pid);
-        (child, times(&mut self.kernel, pid, tid, false))
+        tell_times(&mut self.kernel, pid, tid, false, told);
+        child
     }
 
     // The same, while the keeper holds the process. The child's guest is made before, where there may be a child, since the call's entry
@@ -280,11 +295,11 @@ impl<J: Naming> Locked<J> {
         body: &mut Body,
         call: Call,
     ) -> Came<Option<(Pid, Guest)>>
-        requires recorded { IsRecorded J.launch J.keeps_all self.old.keeper.log self.old.kernel self.old.constants self.old.kept }
+        requires recorded { IsInOrder J.launch J.keeps_all self.old }
         requires held { self.old.keeper.held ≡ pid ∷ [] }
         requires asks { IsLiveIn (world J.launch self.old.keeper.log) pid → AsksCall (world J.launch self.old.keeper.log) pid tid body.old.turns body.old.guest call }
         requires fork { IsFork call }
-        ensures recorded { IsRecorded J.launch J.keeps_all self.new.keeper.log self.new.kernel self.new.constants self.new.kept }
+        ensures recorded { IsInOrder J.launch J.keeps_all self.new }
         ensures held { self.new.keeper.held ≡ held_after result (pid ∷ []) }
         ensures forked { IsForkedOn J.launch self.old.keeper.log pid tid body.old call body.new self.new.keeper.log result }
     {
@@ -308,8 +323,8 @@ impl<J: Naming> Locked<J> {
 
     // Lets time go to the next deadline where no thread takes turns or is ready.
     fn jump(&mut self, passes: &Passes<J>) -> Idled
-        requires recorded { IsRecorded J.launch J.keeps_all self.old.keeper.log self.old.kernel self.old.constants self.old.kept }
-        ensures recorded { IsRecorded J.launch J.keeps_all self.new.keeper.log self.new.kernel self.new.constants self.new.kept }
+        requires recorded { IsInOrder J.launch J.keeps_all self.old }
+        ensures recorded { IsInOrder J.launch J.keeps_all self.new }
         ensures idled { IsIdledOn J.launch self.old.keeper.log self.new.keeper.log result }
     {
         let Ok(()) = self.kept.reserve() else {
@@ -330,8 +345,8 @@ impl<J: Naming> Locked<J> {
 
     /// Lets time go to the next deadline where no thread takes turns or is ready. With what became of it comes the moment then.
     pub fn idle(&mut self, passes: &Passes<J>) -> (Idled, u64)
-        requires recorded { IsRecorded J.launch J.keeps_all self.old.keeper.log self.old.kernel self.old.constants self.old.kept }
-        ensures recorded { IsRecorded J.launch J.keeps_all self.new.keeper.log self.new.kernel self.new.constants self.new.kept }
+        requires recorded { IsInOrder J.launch J.keeps_all self.old }
+        ensures recorded { IsInOrder J.launch J.keeps_all self.new }
         ensures idled { IsIdledOn J.launch self.old.keeper.log self.new.keeper.log result.0 }
         ensures moment { result.1 ≡ self.new.kernel.clock }
     {
@@ -340,10 +355,9 @@ impl<J: Naming> Locked<J> {
 
     /// Whether the pass's process is live, and the moment now.
     pub fn look(&mut self, passes: &Passes<J>, pass: &mut Pass<J>) -> (bool, u64)
-        requires recorded { IsRecorded J.launch J.keeps_all self.old.keeper.log self.old.kernel self.old.constants self.old.kept }
-        ensures recorded { IsRecorded J.launch J.keeps_all self.new.keeper.log self.new.kernel self.new.constants self.new.kept }
-        ensures pass { Looked J.launch pass.old pass.new }
-        ensures live { IsTrue result.0 ↔ IsLiveIn (world J.launch pass.new.seen) pass.old.pid }
+        requires recorded { IsInOrder J.launch J.keeps_all self.old }
+        ensures recorded { IsInOrder J.launch J.keeps_all self.new }
+        ensures pass { Looked J.launch pass.old pass.new result.0 result.1 }
         ensures history { self.new.keeper.log ≡ self.old.keeper.log }
         ensures seen { pass.new.seen ≡ self.new.keeper.log }
     {
@@ -356,8 +370,8 @@ impl<J: Naming> Locked<J> {
 
     /// Takes back the pass of a process that needs it no more.
     pub fn spend(&mut self, passes: &Passes<J>, pass: Pass<J>)
-        requires recorded { IsRecorded J.launch J.keeps_all self.old.keeper.log self.old.kernel self.old.constants self.old.kept }
-        ensures recorded { IsRecorded J.launch J.keeps_all self.new.keeper.log self.new.kernel self.new.constants self.new.kept }
+        requires recorded { IsInOrder J.launch J.keeps_all self.old }
+        ensures recorded { IsInOrder J.launch J.keeps_all self.new }
         ensures history { self.new.keeper.log ≡ self.old.keeper.log }
     {
         self.keeper.take_in(passes, pass);

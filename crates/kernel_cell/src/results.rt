@@ -50,7 +50,7 @@ pub enum Came<T> {
     Done(T),
     /// The thread waits and isn't ready. No entry was added.
     NotReady,
-    /// The process had ended before. No entry was added.
+    /// The process had ended before, or the thread had. No entry was added.
     Gone,
     /// Memory ran out before. No entry was added.
     NoMemory,

@@ -3,7 +3,7 @@
 --     change_does, poll_does, zeros_does, answered_does, unbuilt_does      what such a call does
 --     change_replaces      a number that is replaced is there
 --     all_named      where a call isn't refused each descriptor that it names is there
-use Rattle.std.proofs.Common.{◌≡◌, Bool, true, false, cond, List, [], Option, None, Some, refl, sym, ap, ◌∷◌, ◌∙◌}
+use Rattle.std.proofs.Common.{◌≡◌, Bool, true, false, cond, List, [], Option, None, Some, refl, sym, ap, ◌∷◌}
 use Rattle.abi_base.specs.declared.errno.Errno.{Errno}
 use Rattle.abi_base.specs.declared.errno.Errno.TheVariants.{Badf, Nosys, Success}
 use Rattle.abi_structures.specs.declared.events.Subscription.{Subscription}

@@ -1,14 +1,20 @@
--- Threads that wait in calls, and what the threads of all processes do.
-use Rattle.std.specs.Prelude.{◌≡◌, ◌⊎◌, ℕ, ◌+◌, true, Option, None, Some}
+-- Threads that wait in calls, their wakes, and what the threads of all processes do.
+use Rattle.std.specs.Prelude.{◌≡◌, ◌⊎◌, ⊤, ℕ, ◌+◌, true, Option, None, Some, if◌then◌else◌}
 use Rattle.abi_types.specs.declared.call.Call.{Call}
 use Rattle.abi_types.specs.declared.constants.Constants.{Constants}
+use Rattle.abi_types.specs.declared.reply.Answer.{Answer}
 use Rattle.abi_types.specs.declared.thread.Stage.{Stage}
 use Rattle.abi_types.specs.declared.thread.Thread.{Thread}
 use Rattle.abi_types.specs.declared.thread.Thread.TheVariants.{Runnable, Waits}
+use Rattle.abi_types.specs.declared.wake.WakeIn.{WakeIn}
+use Rattle.abi_types.specs.declared.wake.WakeIn.TheVariants as wake
 use Rattle.abi_types.specs.declared.who.Who.{Who}
+use Rattle.kernel_core.specs.declared.waiting.Woken.{Woken}
+use Rattle.kernel_core.specs.declared.waiting.Woken.TheVariants.{NotReady, NoMemory, Done}
 use Rattle.kernel_model.specs.Deadlines.{least_deadline}
+use Rattle.kernel_model.specs.Families.Locks.{with_word}
 use Rattle.kernel_model.specs.State.{State, thread_of}
-use Rattle.kernel_model.specs.Wakes.{is_ready, IsStalled, MayJump}
+use Rattle.kernel_model.specs.Wakes.{is_ready, may_queue, IsStalled, MayJump}
 use Rattle.kernel_parts.specs.declared.activity.Activity.{Activity}
 use Rattle.kernel_parts.specs.declared.activity.Activity.TheVariants.{NoThread, Busy, Waiting}
 
@@ -31,6 +37,29 @@ abbrev pub waits_until : Option Thread → Option ℕ
 waits_until None = None
 waits_until (Some Runnable) = None
 waits_until (Some (Waits call since until stage)) = until
+
+-- The call in which the thread waits on after its wake, if it may: it has left its condition variable and waits for its lock, with the word that
+-- this has now.
+abbrev pub call_ahead : WakeIn → Option Thread → Option Call
+call_ahead wake.Fault thread = None
+call_ahead (wake.Plain word) None = None
+call_ahead (wake.Plain word) (Some Runnable) = None
+call_ahead (wake.Plain word) (Some (Waits call since until stage)) = if may_queue call (Some stage) then Some (with_word word call) else None
+
+-- where the thread wasn't ready this holds
+abbrev pub IfNotReady : Woken → Type 0 → Type 0
+IfNotReady NotReady P = P
+IfNotReady other P = ⊤
+
+-- where memory ran out this holds
+abbrev pub IfNoMemory : Woken → Type 0 → Type 0
+IfNoMemory NoMemory P = P
+IfNoMemory other P = ⊤
+
+-- where the wake was done this holds of its call and of the answer to that
+abbrev pub IfDone : Woken → (Call → Answer → Type 0) → Type 0
+IfDone (Done call answered) P = P call answered
+IfDone other P = ⊤
 
 -- The threads of all processes do this: there is none; or one runs or is ready; or nothing can happen before the least deadline, or
 -- nothing any more where there is none.

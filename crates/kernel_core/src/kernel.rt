@@ -130,7 +130,7 @@ impl Kernel {
         ensures valid { IsValid self.old }
     {
         if let Some(first) = lock_subscription(call) {
-            return self.lock_poll(constants, who, call, first);
+            return self.call_lock(constants, who, call, first);
         }
         self.clock += STEP_TIME;
         match self.dispatch(constants, who, call) {

@@ -5,6 +5,7 @@ pub use channel_calls::{ThreadOf, Wakes};
 pub use kernel::Kernel;
 pub use kernel_parts::Activity;
 pub use run_types::{Act, Entry, Launch};
+pub use waiting::Woken;
 
 mod clocks;
 mod descriptors;

@@ -1,18 +1,36 @@
 //! Calls on locks and condition variables, and polls of them.
-ghost use Rattle.std.specs.Prelude.{◌≡◌, ◌<◌, ◌^◌, IsSome};
+ghost use Rattle.std.specs.Prelude.{◌≡◌, ◌<◌, ◌^◌, Some, IsSome, IfSome, true};
 ghost use Rattle.std.specs.FinMap as map;
 ghost use Rattle.kernel_model.specs.Done.{IsAnswered};
 ghost use Rattle.kernel_model.specs.Families.LockCalls.{signal_in, unlock_in, waited_outcome};
+ghost use Rattle.kernel_model.specs.Outcome.{is_parked};
 ghost use Rattle.kernel_model.specs.State.{thread_of};
-ghost use Rattle.kernel_model.specs.Step.{IsStep};
+ghost use Rattle.kernel_model.specs.Step.{step_answer, IsStep};
 ghost use Rattle.kernel_model.specs.Valid.{IsValid};
+ghost use Rattle.kernel_model.specs.Waits.{may_wait, waiting, with_thread};
+ghost use Rattle.kernel_model.specs.Wakes.{may_queue, LacksNoMemory};
 ghost use Rattle.poll_set.specs.Polls.{BeginsWith};
 
 use crate::kernel::{Kernel, STEP_TIME};
-use abi_types::{Answer, Call, Constants, Errno, Subscription, TryClone, Who};
+use abi_types::{Answer, Call, Constants, Errno, Stage, Subscription, TryClone, What, Who};
 use guest_locks::Told;
 use kernel_parts::look_again;
-use right_rules::{refusal, refused};
+use poll_set::lock_subscription;
+use right_rules::refused;
+
+// Whether a thread may wait on after a wake that had come so far: one that was signalled at its condition variable, or whose time had come
+// there, may wait for the lock.
+pub(crate) fn may_queue(call: &Call, stage: Stage) -> bool
+    ensures { result ≡ may_queue call.now (Some stage) }
+{
+    if !matches!(stage, Stage::Begun | Stage::Signalled) {
+        return false;
+    }
+    match lock_subscription(call) {
+        Some(first) => matches!(first.what, What::Condvar { .. }),
+        None => false,
+    }
+}
 
 impl Kernel {
     // Lets go of the lock at this address, whose word is this.
@@ -57,9 +75,49 @@ impl Kernel {
         answer
     }
 
-    // A poll that begins with a lock or a condition variable. The call is copied first: once its lock is handed on, there is to be no lack of
-    // memory.
+    // Makes the thread wait in the call that is kept for it, which is taken, if there is one.
+    fn wait_in(&mut self, constants: &Constants, who: &Who, kept: &mut Option<Call>)
+        requires there { IsSome (thread_of self.old who.now.pid who.now.tid) }
+        requires may { IfSome kept.old (λ call. may_wait call ≡ true) }
+        ensures { IfSome kept.old (λ call. self.new ≡ with_thread self.old who.now.pid who.now.tid (waiting constants.now call who.now self.old.clock)) }
+    {
+        if let Some(call) = kept.take() {
+            self.begin_wait(constants, who, call);
+        }
+    }
+
+    // A poll that begins with a lock or a condition variable. Its thread waits in the copy of the call that is kept for it, where it does: the copy
+    // is made before, since once a lock is handed on or a signal is used up there is to be no lack of memory.
     pub(crate) fn lock_poll(
+        &mut self,
+        constants: &Constants,
+        who: &Who,
+        call: &Call,
+        first: &Subscription,
+        kept: &mut Option<Call>,
+    ) -> Answer
+        requires there { IsSome (thread_of self.old who.now.pid who.now.tid) }
+        requires begins { BeginsWith first.now call.now }
+        requires early { self.old.clock < 2 ^ 63 }
+        requires kept { is_parked (step_answer constants.now self.old who.now call.now) ≡ true → kept.old ≡ Some call.now }
+        ensures exact { LacksNoMemory constants.now self.old who.now call.now result self.new }
+        ensures valid { IsValid self.old }
+    {
+        self.clock += STEP_TIME;
+        if let Some(reply) = self.refusal_of(who.pid, call) {
+            return Answer::Reply(reply);
+        }
+        match self.ask_lock(who, first) {
+            Answer::Reply(reply) => Answer::Reply(reply),
+            Answer::Parked(writes) => {
+                self.wait_in(constants, who, kept);
+                Answer::Parked(writes)
+            }
+        }
+    }
+
+    // The same of a call that is made now. It is copied first, and where that can't be nothing changes but the clock.
+    pub(crate) fn call_lock(
         &mut self,
         constants: &Constants,
         who: &Who,
@@ -72,22 +130,14 @@ impl Kernel {
         ensures step { IsStep constants.now self.old who.now call.now result self.new }
         ensures valid { IsValid self.old }
     {
-        self.clock += STEP_TIME;
-        let Some(table) = self.tables.get(u64::from(who.pid.0)) else {
-            return Answer::Reply(refused(Errno::Badf));
+        let Ok(copy) = call.copy() else {
+            self.clock += STEP_TIME;
+            return match self.refusal_of(who.pid, call) {
+                Some(reply) => Answer::Reply(reply),
+                None => Answer::Reply(refused(Errno::Nomem)),
+            };
         };
-        if let Some(reply) = refusal(table, call) {
-            return Answer::Reply(reply);
-        }
-        let Ok(kept) = call.copy() else {
-            return Answer::Reply(refused(Errno::Nomem));
-        };
-        match self.ask_lock(who, first) {
-            Answer::Reply(reply) => Answer::Reply(reply),
-            Answer::Parked(writes) => {
-                self.begin_wait(constants, who, kept);
-                Answer::Parked(writes)
-            }
-        }
+        let mut kept = Some(copy);
+        self.lock_poll(constants, who, call, first, &mut kept)
     }
 }

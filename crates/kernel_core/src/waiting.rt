@@ -1,25 +1,40 @@
 //! Threads that wait in calls: how they begin to, their wakes, and the jumps of time where nothing else can happen.
-ghost use Rattle.std.specs.Prelude.{◌≡◌, ◌≢◌, ◌^◌, ◌<◌, ◌≤◌, ◌↔◌, ℕ, Some, None, IsSome, IfSome, IfNone, OnOk, OnErr, IsTrue, IsFalse, false, true, option_copied};
+ghost use Rattle.std.specs.Prelude.{◌≡◌, ◌≢◌, ◌^◌, ◌<◌, ◌≤◌, ◌↔◌, ℕ, Some, IsSome, IfOk, OnOk, OnErr, IsTrue, IsFalse, false, true, option_copied};
 ghost use Rattle.abi_types.specs.declared.reply.Answer.TheVariants as answer;
-ghost use Rattle.kernel_core.specs.Waiting.{ThreadsDo, kept_call, waiter};
+ghost use Rattle.abi_types.specs.declared.wake.WakeIn.TheVariants as wake;
+ghost use Rattle.kernel_core.specs.Waiting.{call_ahead, kept_call, waiter, IfDone, IfNoMemory, IfNotReady, ThreadsDo};
+ghost use Rattle.kernel_model.specs.Calls.{meaning_of};
 ghost use Rattle.kernel_model.specs.Deadlines.{idle_state};
+ghost use Rattle.kernel_model.specs.Outcome.{is_parked};
 ghost use Rattle.kernel_model.specs.State.{Part, Agree, thread_of};
-ghost use Rattle.kernel_model.specs.Step.{tick, IsUntouched};
+ghost use Rattle.kernel_model.specs.Step.{step_answer, tick, IsStep, IsUntouched};
 ghost use Rattle.kernel_model.specs.Valid.{IsValid};
 ghost use Rattle.kernel_model.specs.Waits.{may_wait, resumed, waiting, with_thread, WaitsIn};
-ghost use Rattle.kernel_model.specs.Wakes.{is_ready, woken, IsStalled, IsWake, MayJump};
+ghost use Rattle.kernel_model.specs.Wakes.{is_ready, woken, IsStalled, IsWake, LacksNoMemory, MayJump};
 ghost use Rattle.kernel_parts.specs.Waiting.{kept_in};
 
 use crate::kernel::{Kernel, STEP_TIME};
+use crate::locks::may_queue;
 use abi_types::{
     Answer, Call, Constants, Errno, Pid, Reply, Stage, Thread, Tid, TryClone, WakeIn, Who,
 };
 use channel_calls::ThreadOf;
 use guest_locks::set_word;
 use kernel_parts::{Activity, goes_on, next_number, note_wait};
-use poll_set::Surroundings;
+use poll_set::{Surroundings, lock_subscription};
 use right_rules::refused;
 use std::alloc::AllocError;
+
+/// What came of a wake.
+#[derive(Drop)]
+pub enum Woken {
+    /// The thread isn't ready, and nothing has changed.
+    NotReady,
+    /// Memory ran out, and nothing has changed.
+    NoMemory,
+    /// The call that the thread waited in was done, or the thread waits on in it for its lock.
+    Done { call: Call, answer: Answer },
+}
 
 impl Kernel {
     // Makes the thread wait in a call that it made. Takes no memory.
@@ -143,42 +158,88 @@ impl Kernel {
         }
     }
 
-    /// The wake of a thread in a run with these constants: `None`, with nothing changed, exactly where it isn't ready. Else it runs, and
-    /// the call that it waited in is done: this is the call, with its answer. A thread that has left its condition variable and doesn't get
-    /// its lock waits for that, and the call isn't done yet. Where the word of the lock or the places of the call's output can't be accessed
-    /// any more, it is refused by `Errno::Fault`. A wake takes 1000 nanoseconds. `Errno::Nomem` comes only where memory runs out in a call that
-    /// would else succeed. A wake that answers an error moves only the clock, and the thread runs.
-    pub fn wake(
+    // The call in which a thread may wait on after its wake, if it may: a copy, with the word that its lock has now.
+    fn call_ahead(&self, pid: Pid, tid: Tid, word: u32) -> Result<Option<Call>, AllocError>
+        ensures ok { IfOk result (λ ahead. ahead ≡ call_ahead (wake.Plain word) (thread_of self.now pid tid)) }
+        ensures err { OnErr result (IsSome (call_ahead (wake.Plain word) (thread_of self.now pid tid))) }
+    {
+        let Some(Thread::Waits { call, stage, .. }) = self.thread(pid, tid) else {
+            return Ok(None);
+        };
+        if !may_queue(call, *stage) {
+            return Ok(None);
+        }
+        let mut ahead = call.copy()?;
+        set_word(&mut ahead, word);
+        Ok(Some(ahead))
+    }
+
+    // The call of a thread that was woken and runs, with the clock. Where it waits for a lock it takes no memory: a thread that waits on does in
+    // the copy that was made ahead.
+    fn go_on(
         &mut self,
         constants: &Constants,
-        pid: Pid,
-        tid: Tid,
-        given: WakeIn,
-    ) -> Option<(Call, Answer)>
+        who: &Who,
+        call: &Call,
+        ahead: Option<Call>,
+    ) -> Answer
+        requires runnable { thread_of self.old who.now.pid who.now.tid ≡ Some Thread.Runnable }
         requires early { self.old.clock < 2 ^ 63 }
         requires epoch { constants.now.epoch ≤ 2 ^ 62 }
-        ensures none { IfNone result ((is_ready constants.now self.old pid tid ≡ false) × (self.new ≡ self.old)) }
-        ensures ready { IfSome result (λ _. is_ready constants.now self.old pid tid ≡ true) }
-        ensures woken { IfSome result (λ done. (since : ℕ) (stage : Stage) → WaitsIn self.old (waiter pid tid since stage) done.0
-            → IsWake constants.now self.old (waiter pid tid since stage) done.0 given done.1 self.new) }
-        ensures kept { IfSome result (λ done. Some done.0 ≡ kept_call (thread_of self.old pid tid)) }
-        ensures valid { IfSome result (λ _. IsValid self.new) }
+        requires ahead { is_parked (step_answer constants.now self.old who.now call.now) ≡ true → ahead ≡ Some call.now }
+        ensures step { IsStep constants.now self.old who.now call.now result self.new }
+        ensures exact { (meaning_of call.now).by_stage ≡ true → LacksNoMemory constants.now self.old who.now call.now result self.new }
+        ensures valid { IsValid self.old }
+    {
+        let mut kept = ahead;
+        match lock_subscription(call) {
+            Some(first) => self.lock_poll(constants, who, call, first, &mut kept),
+            None => self.run(constants, who, call),
+        }
+    }
+
+    /// The wake of a thread in a run with these constants, if it is ready. It runs then, and the call that it waited in is done: with it comes its
+    /// answer. A thread that has left its condition variable and doesn't get its lock waits for that, and the call isn't done yet. Where the
+    /// word of the lock or the places of the call's output can't be accessed any more, it is refused by `Errno::Fault`. A wake takes 1000
+    /// nanoseconds. What a thread that may wait on for its lock takes of memory is had before anything changes, so that no lock and no
+    /// signal is lost: where it can't be had nothing changes. Of any other call that it waited in `Errno::Nomem` comes only where memory runs out and
+    /// it would else succeed. A wake that answers an error moves only the clock, and the thread runs.
+    pub fn wake(&mut self, constants: &Constants, pid: Pid, tid: Tid, given: WakeIn) -> Woken
+        requires early { self.old.clock < 2 ^ 63 }
+        requires epoch { constants.now.epoch ≤ 2 ^ 62 }
+        ensures not_ready { IfNotReady result ((is_ready constants.now self.old pid tid ≡ false) × (self.new ≡ self.old)) }
+        ensures lacks { IfNoMemory result ((is_ready constants.now self.old pid tid ≡ true)
+            × IsSome (call_ahead given (thread_of self.old pid tid)) × (self.new ≡ self.old)) }
+        ensures ready { IfDone result (λ done answered. is_ready constants.now self.old pid tid ≡ true) }
+        ensures woken { IfDone result (λ done answered. (since : ℕ) (stage : Stage) → WaitsIn self.old (waiter pid tid since stage) done
+            → IsWake constants.now self.old (waiter pid tid since stage) done given answered self.new) }
+        ensures kept { IfDone result (λ done answered. Some done ≡ kept_call (thread_of self.old pid tid)) }
+        ensures valid { IfDone result (λ done answered. IsValid self.new) }
         ensures others { (since : ℕ) (stage : Stage) (call : Call) (q : Part) → WaitsIn self.old (waiter pid tid since stage) call
             → IsUntouched constants.now (resumed self.old (waiter pid tid since stage)) (waiter pid tid since stage) (woken call given) q → Agree self.new self.old q }
-        ensures refused { IfSome result (λ done. (reply : Reply) → done.1 ≡ answer.Reply reply → reply.errno ≢ Errno.Success
+        ensures refused { IfDone result (λ done answered. (reply : Reply) → answered ≡ answer.Reply reply → reply.errno ≢ Errno.Success
             → self.new ≡ tick (with_thread self.old pid tid Thread.Runnable)) }
     {
         if !self.is_ready(constants, pid, tid) {
             self.note(pid, tid);
-            return None;
+            return Woken::NotReady;
         }
-        let (mut call, since, stage) = self.resume(pid, tid)?;
         match given {
             WakeIn::Fault => {
+                let Some((call, _, _)) = self.resume(pid, tid) else {
+                    return Woken::NotReady;
+                };
                 self.clock += STEP_TIME;
-                Some((call, Answer::Reply(refused(Errno::Fault))))
+                let answer = Answer::Reply(refused(Errno::Fault));
+                Woken::Done { call, answer }
             }
             WakeIn::Plain { word } => {
+                let Ok(ahead) = self.call_ahead(pid, tid, word) else {
+                    return Woken::NoMemory;
+                };
+                let Some((mut call, since, stage)) = self.resume(pid, tid) else {
+                    return Woken::NotReady;
+                };
                 let who = Who {
                     pid,
                     tid,
@@ -186,9 +247,9 @@ impl Kernel {
                     stage: Some(stage),
                 };
                 let old = set_word(&mut call, word);
-                let answer = self.run(constants, &who, &call);
+                let answer = self.go_on(constants, &who, &call, ahead);
                 set_word(&mut call, old);
-                Some((call, answer))
+                Woken::Done { call, answer }
             }
         }
     }

@@ -18,18 +18,16 @@ use Rattle.abi_types.specs.declared.reply.Reply.{Reply}
 use Rattle.abi_types.specs.declared.who.Who.{Who}
 use Rattle.kernel_model.specs.CallBounds.{NamesAlone, NeverLack, ReadersKeepTree, never_lacks, reads}
 use Rattle.kernel_model.specs.Calls.{meaning_of, refusal, takes_memory}
-use Rattle.kernel_model.specs.Families.DescriptorCalls.{open_part}
-use Rattle.kernel_model.specs.Families.FileMeaning.{on_open, open_of}
+use Rattle.kernel_model.specs.Families.FileMeaning.{on_open}
 use Rattle.kernel_model.specs.Families.MemoryCalls.{map_row, map_zeros, mapping}
 use Rattle.kernel_model.specs.Families.Numbers.{new_parts}
 use Rattle.kernel_model.specs.OwnChanges.{born_of, child_parts, made_parts}
-use Rattle.kernel_model.specs.Families.OpenMeaning.{OpenMeaning, by_open}
+use Rattle.kernel_model.specs.Families.OpenMeaning.{OpenMeaning, by_open, moved_part, touched_at}
 use Rattle.kernel_model.specs.Families.StreamCalls.{reading, seeking, stream_part}
 use Rattle.kernel_model.specs.Meaning.{Meaning}
 use Rattle.kernel_model.specs.Sight.{process_parts}
 use Rattle.kernel_model.specs.State.{State, Table, Part, at_node, at_names, has_part}
 use Rattle.kernel_model.specs.Step.{changed, made_by, made_on, touch, unless_refused}
-use Rattle.kernel_model.specs.View.{whole}
 use Rattle.kernel_model.proofs.Parts.{has_of_both}
 use Rattle.kernel_model.proofs.Refusals.{no_memory_is_exact}
 use Rattle.kernel_model.proofs.Tests.{not_true}
@@ -104,12 +102,6 @@ nothing_touched m none all = record {
   leaves = λ S table q of. ap (λ parts. has_part parts q) (all S table);
 }
 
--- one that works on an open, and touches beside it no part of the tree
-open_left : (q : Part) → IsOfTree q → (d : Option Descriptor) → has_part (open_part d) q ≡ false
-open_left q of None = refl
-open_left q (node n) (Some d) = refl
-open_left q (names n) (Some d) = refl
-
 stream_left : (q : Part) → IsOfTree q → (kind : Option OpenKind) → has_part (stream_part kind) q ≡ false
 stream_left q of None = refl
 stream_left q (node n) (Some (Terminal which flags)) = refl
@@ -121,13 +113,25 @@ stream_left q (node n) (Some (End (Some c) writes flags form)) = refl
 stream_left q (names n) (Some (End (Some c) writes flags form)) = refl
 stream_left q of (Some (Process p object)) = refl
 
+-- the open of a descriptor, whether it may move or not
+moved_left : (q : Part) → IsOfTree q → (moves : Bool) (o : ℕ) → has_part (moved_part moves o) q ≡ false
+moved_left q of false o = refl
+moved_left q (node n) true o = refl
+moved_left q (names n) true o = refl
+
+touched_left : (m : OpenMeaning) (q : Part) → IsOfTree q → ((kind : Option OpenKind) → has_part (m.touched kind) q ≡ false) → (S : State) (d : Option Descriptor)
+    → has_part (touched_at m S d) q ≡ false
+touched_left m q of beside S None = refl
+touched_left m q of beside S (Some d) =
+    neither (moved_part (m.moves (get S.opens d.id)) d.id) (m.touched (get S.opens d.id)) q (moved_left q of (m.moves (get S.opens d.id)) d.id)
+    (beside (get S.opens d.id))
+
+-- one that works on an open, and touches beside it no part of the tree
 on_open_keeps : (row : Needed) (m : OpenMeaning) → ((q : Part) → IsOfTree q → (kind : Option OpenKind) → has_part (m.touched kind) q ≡ false)
     → KeepsTree (by_open row m)
 on_open_keeps row m beside = record {
   makes = refl;
-  leaves = λ S table q of.
-      neither (open_part (get table row.fd)) (m.touched (open_of (whole S) (get table row.fd))) q (open_left q of (get table row.fd))
-      (beside q of (open_of (whole S) (get table row.fd)));
+  leaves = λ S table q of. touched_left m q of (beside q of) S (get table row.fd);
 }
 
 map_keeps : (anonymous : Bool) (place : Place) (row : Needed) (length offset : ℕ)

@@ -14,7 +14,7 @@ use Rattle.abi_types.specs.declared.open_kind.OpenKind.{OpenKind}
 use Rattle.abi_types.specs.declared.open_kind.OpenKind.TheVariants.{File, Directory, End, Terminal, Process}
 use Rattle.maps.specs.Maps.{get-insert-same, get-insert-other}
 use Rattle.kernel_model.specs.Proper.{CarriesOn, IsCounted, IsSentBy, Sender, adds, sends_had, draws, empties}
-use Rattle.kernel_model.specs.Channels.{Channel, Send, SideState, Gone, Open, Shut, HasByte, IsDrawnFrom, bytes_of, carried_of, coming, drawn_after, drawn_by, has_room, new_channel, sends_gone, is_hung, is_open, pushed, room, sends_after, shut_side, with_reader_shut, with_writer_shut}
+use Rattle.kernel_model.specs.Channels.{Channel, Send, SideState, Gone, Open, Shut, HasByte, bytes_of, carried_of, coming, drawn_by, has_room, new_channel, sends_gone, is_hung, is_open, pushed, room, sends_after, shut_side, with_reader_shut, with_writer_shut}
 use Rattle.kernel_model.specs.State.{State, put_one, set_chan}
 use Rattle.kernel_model.specs.Valid.{HasBehind, HasReader, HasWriter, IsJoined, IsNamed, IsNearlyValid}
 use Rattle.kernel_model.proofs.Channels.{all_both, all_first, all_last}
@@ -38,10 +38,6 @@ append_all (x ∷ xs) ys zs = ap (λ rest. x ∷ rest) (append_all xs ys zs)
 pub carried_both : (xs ys : List Send) → carried_of (xs ++ ys) ≡ carried_of xs ++ carried_of ys
 carried_both [] ys = refl
 carried_both (x ∷ xs) ys = ap (λ rest. x.carried ++ rest) (carried_both xs ys) ∙ sym (append_all x.carried (carried_of xs) (carried_of ys))
-
-drawn_pushed : (drawn : ℕ) (sends : List Send) (send : Send) → IsDrawnFrom drawn sends → IsDrawnFrom drawn (sends ++ send ∷ [])
-drawn_pushed drawn [] send h = inl h
-drawn_pushed drawn (x ∷ xs) send h = h
 
 both_hold : (a b : Bool) → (a && b) ≡ true → (a ≡ true) × (b ≡ true)
 both_hold true b h = (refl, h)
@@ -76,7 +72,6 @@ pushed_joined opens c channel bytes carried hung fits some within named is =
         whole = all_both HasByte channel.waiting (send ∷ []) is.sound.whole (some, tt);
         bytes = omega arith;
         carried = omega arith;
-        drawn = drawn_pushed channel.drawn channel.waiting send is.sound.drawn;
         read = λ shut. absurd (not_true (sym shut ∙ sides.0));
       };
       carried = subst (AllByRecursion (λ (d : Descriptor). IsNamed (get opens d.id) d)) (sym (carried_both channel.waiting (send ∷ [])))
@@ -138,17 +133,6 @@ module _ where
   coming_all P [] (suc m) h = tt
   coming_all P (send ∷ rest) (suc m) h = all_first P send.carried (carried_of rest) h
 
-  none_drawn : (sends : List Send) → IsDrawnFrom 0 sends
-  none_drawn [] = refl
-  none_drawn (send ∷ rest) = inl refl
-
-  after_drawn : (sends : List Send) (m drawn : ℕ) → IsDrawnFrom drawn sends → IsDrawnFrom (drawn_after m drawn sends) (sends_after m sends)
-  after_drawn sends zero drawn h = h
-  after_drawn [] (suc m) drawn h = refl
-  after_drawn (send ∷ rest) (suc m) drawn h =
-      by_less (λ less. IsDrawnFrom (cond less (drawn + suc m) (drawn_after (suc m - length send.bytes) 0 rest)) (after_by (suc m) send rest less))
-      (suc m) (length send.bytes) (λ _. inr refl) (λ _. after_drawn rest (suc m - length send.bytes) 0 (none_drawn rest))
-
   after_none : (sends : List Send) (m : ℕ) → sends ≡ [] → sends_after m sends ≡ []
   after_none sends zero h = h
   after_none [] (suc m) h = refl
@@ -167,7 +151,6 @@ drawn_joined opens c channel m is =
         whole = after_whole channel.waiting m is.sound.whole;
         bytes = omega arith;
         carried = omega arith;
-        drawn = after_drawn channel.waiting m channel.drawn is.sound.drawn;
         read = λ shut. after_none channel.waiting m (is.sound.read shut);
       };
       carried = after_all (λ (d : Descriptor). IsNamed (get opens d.id) d) channel.waiting m is.carried;
@@ -192,7 +175,7 @@ shut_was Gone h e = h refl
 
 pub shut_reader_joined : (opens : FinMap nat_cmp OpenKind) (c : ℕ) (channel : Channel) → IsJoined opens c channel → IsJoined opens c (with_reader_shut channel)
 shut_reader_joined opens c channel is = record {
-  sound = record { whole = tt; bytes = omega arith; carried = omega arith; drawn = refl; read = λ _. refl };
+  sound = record { whole = tt; bytes = omega arith; carried = omega arith; read = λ _. refl };
   carried = tt;
   read = λ still. is.read (shut_was channel.reader still);
   written = is.written;
@@ -200,7 +183,7 @@ shut_reader_joined opens c channel is = record {
 
 pub shut_writer_joined : (opens : FinMap nat_cmp OpenKind) (c : ℕ) (channel : Channel) → IsJoined opens c channel → IsJoined opens c (with_writer_shut channel)
 shut_writer_joined opens c channel is = record {
-  sound = record { whole = is.sound.whole; bytes = is.sound.bytes; carried = is.sound.carried; drawn = is.sound.drawn; read = is.sound.read };
+  sound = record { whole = is.sound.whole; bytes = is.sound.bytes; carried = is.sound.carried; read = is.sound.read };
   carried = is.carried;
   read = is.read;
   written = λ still. is.written (shut_was channel.writer still);

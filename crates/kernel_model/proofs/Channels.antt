@@ -117,9 +117,9 @@ opens_joined before after chans names ends joined c channel there =
 -- ---- the channels that a release leaves
 
 pub left_sound : (reader writer : Bool) (channel : Channel) → IsChannel channel → IsChannel (channel_left reader writer channel)
-left_sound true true channel h = record { whole = tt; bytes = omega arith; carried = omega arith; drawn = refl; read = λ _. refl }
-left_sound true false channel h = record { whole = tt; bytes = omega arith; carried = omega arith; drawn = refl; read = λ _. refl }
-left_sound false true channel h = record { whole = h.whole; bytes = h.bytes; carried = h.carried; drawn = h.drawn; read = h.read }
+left_sound true true channel h = record { whole = tt; bytes = omega arith; carried = omega arith; read = λ _. refl }
+left_sound true false channel h = record { whole = tt; bytes = omega arith; carried = omega arith; read = λ _. refl }
+left_sound false true channel h = record { whole = h.whole; bytes = h.bytes; carried = h.carried; read = h.read }
 left_sound false false channel h = h
 
 -- the first descriptor of a list is counted there

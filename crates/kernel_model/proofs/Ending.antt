@@ -128,7 +128,7 @@ none_more n = omega arith
 
 reader_twice : (a b : Bool) (channel : Channel) → without_reader a (without_reader b channel) ≡ without_reader (a || b) channel
 reader_twice true true channel =
-    λ i. record channel { left = none_more (channel.left + length channel.waiting) i; waiting = []; drawn = 0; reader = Gone }
+    λ i. record channel { left = none_more (channel.left + length channel.waiting) i; waiting = []; reader = Gone }
 reader_twice true false channel = refl
 reader_twice false b channel = refl
 

@@ -12,9 +12,7 @@ use Rattle.abi_types.specs.declared.descriptor.Descriptor.{Descriptor}
 use Rattle.abi_types.specs.declared.needed.Needed.{Needed}
 use Rattle.abi_types.specs.declared.open_kind.OpenKind.{OpenKind}
 use Rattle.kernel_model.specs.Families.ClockCalls.{real_time}
-use Rattle.kernel_model.specs.Families.DescriptorCalls.{open_part}
-use Rattle.kernel_model.specs.Families.FileMeaning.{open_of}
-use Rattle.kernel_model.specs.Families.OpenMeaning.{OpenMeaning, at_descriptor, by_open}
+use Rattle.kernel_model.specs.Families.OpenMeaning.{OpenMeaning, at_descriptor, by_open, moved_part, touched_at}
 use Rattle.kernel_model.specs.Outcome.{Outcome, is_parked, replies}
 use Rattle.kernel_model.specs.Proper.{AllCarryOn, IsIn, IsPlain, IsProper, IsUnset, OrWaits, may_send}
 use Rattle.kernel_model.specs.Reply.{refused}
@@ -97,7 +95,7 @@ pub record OpensWell (m : OpenMeaning) : Type 0 where
   pub sees : SeesWell m
   -- it sets nothing of a process, and nothing beside the open that it doesn't say; and it sees that
   pub apart : (now : ℕ) (v : View) (o : ℕ) (kind : Option OpenKind) → AreOfNoProcess (m.effect now v o kind).updates
-  pub sets : (now : ℕ) (v : View) (o : ℕ) (kind : Option OpenKind) (q : Part) → has_part (at_open o ∷ m.touched kind) q ≡ false
+  pub sets : (now : ℕ) (v : View) (o : ℕ) (kind : Option OpenKind) (q : Part) → has_part (moved_part (m.moves kind) o ++ m.touched kind) q ≡ false
       → IsUnset (m.effect now v o kind) q
   -- channels go on, whatever the table is
   pub carries : (now : ℕ) (S : State) (o : ℕ) (kind : Option OpenKind) (table : Table)
@@ -120,14 +118,23 @@ module _ (m : OpenMeaning) (well : SeesWell m) where
       ap (m.effect now (restrict S (process_parts p ++ (reached_by S (Some d) ++ []))) d.id) (open_seen S p d)
       ∙ well.reads now S p d.id (get S.opens d.id)
 
-  pub seen_descriptor : (S : State) (d : Option Descriptor) (q : Part) → has_part (open_part d ++ m.touched (open_of (whole S) d)) q ≡ true
-      → has_part (reached_by S d ++ []) q ≡ true
-  seen_descriptor S None q h = well.seen S None q h
-  seen_descriptor S (Some d) q h =
-      has_left (reached_by S (Some d)) [] q (elim (either_true (same_part (at_open d.id) q) (has_part (m.touched (get S.opens d.id)) q) h) [
+  -- what stands behind the open is seen, and the open, whether it may move or not
+  seen_behind : (S : State) (d : Descriptor) (q : Part) → has_part (m.touched (get S.opens d.id)) q ≡ true → has_part (reached_by S (Some d)) q ≡ true
+  seen_behind S d q h = ap (λ b. same_part (at_open d.id) q || b) (well.seen S (get S.opens d.id) q h) ∙ or_true (same_part (at_open d.id) q)
+
+  seen_with_open : (S : State) (d : Descriptor) (moves : Bool) (q : Part) → has_part (moved_part moves d.id ++ m.touched (get S.opens d.id)) q ≡ true
+      → has_part (reached_by S (Some d)) q ≡ true
+  seen_with_open S d false q h = seen_behind S d q h
+  seen_with_open S d true q h =
+      elim (either_true (same_part (at_open d.id) q) (has_part (m.touched (get S.opens d.id)) q) h) [
         | inl is ↦ ap (λ b. b || has_part (behind S (get S.opens d.id)) q) is
-        | inr there ↦ ap (λ b. same_part (at_open d.id) q || b) (well.seen S (get S.opens d.id) q there) ∙ or_true (same_part (at_open d.id) q)
-      ])
+        | inr there ↦ seen_behind S d q there
+      ]
+
+  pub seen_descriptor : (S : State) (d : Option Descriptor) (q : Part) → has_part (touched_at m S d) q ≡ true
+      → has_part (reached_by S d ++ []) q ≡ true
+  seen_descriptor S None q h = absurd (not_true h)
+  seen_descriptor S (Some d) q h = has_left (reached_by S (Some d)) [] q (seen_with_open S d (m.moves (get S.opens d.id)) q h)
 
   pub plain_descriptor : (now p : ℕ) (own : Option ProcessState) (v : View) (d : Option Descriptor)
       → OrWaits m.may_wait p own (at_descriptor (m.effect now v) v d) (IsPlain m.errors (at_descriptor (m.effect now v) v d))
@@ -143,7 +150,7 @@ module _ (m : OpenMeaning) (well : SeesWell m) where
 
 module _ (m : OpenMeaning) (well : OpensWell m) where
   pub sets_descriptor : (now : ℕ) (S : State) (d : Option Descriptor) (q : Part)
-      → has_part (open_part d ++ m.touched (open_of (whole S) d)) q ≡ false
+      → has_part (touched_at m S d) q ≡ false
       → IsUnset (at_descriptor (m.effect now (whole (tick S))) (whole (tick S)) d) q
   sets_descriptor now S None q h = refl
   sets_descriptor now S (Some d) q h = well.sets now (whole (tick S)) d.id (get S.opens d.id) q h
@@ -170,7 +177,7 @@ module _ (m : OpenMeaning) (well : OpensWell m) where
     walks = λ S who table. refl;
     sets = λ constants S who table part h.
         sets_descriptor (real_time constants (tick S).clock) S (get table row.fd) part
-        (beyond_process who.pid (open_part (get table row.fd) ++ m.touched (open_of (whole S) (get table row.fd))) part h).1;
+        (beyond_process who.pid (touched_at m S (get table row.fd)) part h).1;
     touched = λ S table part h. seen_descriptor m well.sees S (get table row.fd) part h;
     plain = λ constants v who table. plain_descriptor m well.sees (real_time constants v.clock) who.pid (v.process who.pid) v (get table row.fd);
     waits = λ may. record {

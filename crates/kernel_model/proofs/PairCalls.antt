@@ -147,7 +147,7 @@ creates_others pair p own table first second q other = (ap (λ b. b || (b || fal
 -- ---- the state after it
 
 sound_new : IsChannel new_channel
-sound_new = record { whole = tt; bytes = omega arith; carried = omega arith; drawn = refl; read = λ _. refl }
+sound_new = record { whole = tt; bytes = omega arith; carried = omega arith; read = λ _. refl }
 
 module _ (S : State) (p : ℕ) (own : ProcessState) (there : get S.processes p ≡ Some own) (v : IsNearlyValid S) (n : ℕ)
     (can : can_number p (suc n) (Some own) ≡ true) where

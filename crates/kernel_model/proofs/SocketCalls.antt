@@ -18,16 +18,15 @@ use Rattle.abi_types.specs.declared.reply.Answer.TheVariants as answer
 use Rattle.maps.specs.Maps.{get-insert-same, get-insert-other}
 use Rattle.kernel_model.specs.Channels.{Channel, Pulled, pull, reach, Gone, with_reader_shut, with_writer_shut}
 use Rattle.kernel_model.specs.Families.ChannelCalls.{Installed, added, both_parts, install, is_nonblocking, must_wait_by, peeks, picked, put_first, receive_from, receive_open, received_if, received_part, received_reply, received_with, send_open, sent_part, sent_reply, shut_if, shut_open, taken_if, truncated, waits_unless, where_free}
-use Rattle.kernel_model.specs.Families.DescriptorCalls.{lowest_free, open_part}
-use Rattle.kernel_model.specs.Families.FileMeaning.{open_of}
-use Rattle.kernel_model.specs.Families.OpenMeaning.{at_descriptor}
+use Rattle.kernel_model.specs.Families.DescriptorCalls.{lowest_free}
+use Rattle.kernel_model.specs.Families.OpenMeaning.{at_descriptor, touched_at}
 use Rattle.kernel_model.specs.Families.SocketCalls.{receiving, sending, shutting, sock_recv, sock_send, sock_shutdown}
 use Rattle.kernel_model.specs.Outcome.{Outcome, is_parked, parks, replies}
 use Rattle.kernel_model.specs.Proper.{AllCarryOn, CarriesOn, IsIn, IsPlain, IsProper, IsUnset, OrWaits, Sender, nothing_set}
 use Rattle.kernel_model.specs.Reply.{refused, success}
 use Rattle.kernel_model.specs.Rows.{base_row}
 use Rattle.kernel_model.specs.Sight.{behind, channel_part, process_parts}
-use Rattle.kernel_model.specs.State.{State, Table, Part, at_chan, at_clock, at_open, at_proc, at_status, has_part, part_of, put_all, put_one, same_part, set_chan}
+use Rattle.kernel_model.specs.State.{State, Table, Part, at_chan, at_clock, at_proc, at_status, has_part, part_of, put_all, put_one, same_part, set_chan}
 use Rattle.kernel_model.specs.Step.{tick}
 use Rattle.kernel_model.specs.Valid.{IsNamed, IsNearlyValid}
 use Rattle.kernel_model.specs.View.{View, restrict, whole}
@@ -126,10 +125,10 @@ module _ (bytes : List ℕ) (carried : List Descriptor) where
   send_apart v None = tt
   send_apart v (Some d) = (send_open_ends v d.id (v.opened d.id)).apart
 
-  send_sets : (S : State) (d : Option Descriptor) (q : Part) → has_part (open_part d ++ sent_part (open_of (whole S) d)) q ≡ false
+  send_sets : (S : State) (d : Option Descriptor) (q : Part) → has_part (touched_at (sending bytes []) S d) q ≡ false
       → IsUnset (at_descriptor (λ o. send_open (whole (tick S)) bytes carried) (whole (tick S)) d) q
   send_sets S None q h = refl
-  send_sets S (Some d) q h = (send_open_ends (whole (tick S)) d.id (get S.opens d.id)).sets q (outside_cons (at_open d.id) (sent_part (get S.opens d.id)) q h).1
+  send_sets S (Some d) q h = (send_open_ends (whole (tick S)) d.id (get S.opens d.id)).sets q h
 
   send_carries : (S : State) (d : Option Descriptor) (sender : Sender) → AreIn carried sender
       → AllCarryOn S sender (at_descriptor (λ o. send_open (whole S) bytes carried) (whole S) d)
@@ -150,7 +149,7 @@ sock_send_is_proper fd bytes fds = record {
   walks = λ S who table. refl;
   sets = λ constants S who table part h.
       send_sets bytes (picked table fds) S (get table fd) part
-      (beyond_process who.pid (open_part (get table fd) ++ sent_part (open_of (whole S) (get table fd))) part h).1;
+      (beyond_process who.pid (touched_at (sending bytes []) S (get table fd)) part h).1;
   touched = λ S table part h. seen_descriptor (sending bytes []) (send_sees_well bytes []) S (get table fd) part h;
   plain = λ constants v who table. plain_descriptor (sending bytes (picked table fds)) (send_sees_well bytes (picked table fds)) 0 who.pid (v.process who.pid) v (get table fd);
   waits = λ _. record {
@@ -332,16 +331,15 @@ receive_at p table n room flags v d = at_descriptor (λ o. receive_open p table 
 module _ (p : ℕ) (table : Table) (n room flags : ℕ) where
   -- what it sets is of the channel and the table
   receive_sets : (S : State) (d : Option Descriptor) (q : Part)
-      → has_part (process_parts p ++ (open_part d ++ received_part (open_of (whole S) d))) q ≡ false
+      → has_part (process_parts p ++ touched_at (receiving 0 empty n room flags) S d) q ≡ false
       → IsUnset (receive_at p table n room flags (whole (tick S)) d) q
   receive_sets S None q h = refl
   receive_sets S (Some d) q h =
-      let both = beyond_process p (open_part (Some d) ++ received_part (get S.opens d.id)) q h in
+      let both = beyond_process p (received_part (get S.opens d.id)) q h in
       let own = outside_cons (at_proc p) (at_status p ∷ []) q (outside_cons at_clock (at_proc p ∷ at_status p ∷ []) q both.0).1 in
-      let behind_it : has_part (received_part (get S.opens d.id)) q ≡ false = (outside_cons (at_open d.id) (received_part (get S.opens d.id)) q both.1).1 in
       receive_holds p table (whole (tick S)) n room flags (λ x. IsUnset x q) (λ errno here. refl) refl (λ bytes. refl) (get S.opens d.id)
       (λ c w mode form channel installed is there made.
-      let chan = outside_cons (at_chan c) [] q (ap (λ kind. has_part (received_part kind) q) (sym is) ∙ behind_it) in
+      let chan = outside_cons (at_chan c) [] q (ap (λ kind. has_part (received_part kind) q) (sym is) ∙ both.1) in
       ap (λ b. b || (same_part (at_proc p) q || false)) chan.0 ∙ ap (λ b. b || false) own.0)
 
   receive_others : (v : View) (d : Option Descriptor) (q : ℕ) → q ≢ p
@@ -572,7 +570,7 @@ module _ (how : ℕ) where
       waits = λ h. absurd (not_true h);
     };
     apart = λ now v o kind. (shut_ends v o kind).apart;
-    sets = λ now v o kind q h. (shut_ends v o kind).sets q (outside_cons (at_open o) (both_parts kind) q h).1;
+    sets = λ now v o kind. (shut_ends v o kind).sets;
     carries = λ now S o kind table. (shut_ends (whole S) o kind).carries S refl (table, [], false);
     valid = λ now S o kind there nearly. (shut_ends (whole S) o kind).valid S refl nearly;
   }

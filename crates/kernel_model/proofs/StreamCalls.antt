@@ -16,13 +16,13 @@ use Rattle.tree_model.specs.Files.{is_beyond, read_bytes}
 use Rattle.kernel_model.specs.Families.ChannelCalls.{written_reply}
 use Rattle.kernel_model.specs.Families.FileBytes.{overwritten, written_count}
 use Rattle.kernel_model.specs.Families.FileOffsets.{OffsetOutcome, as_offset, with_offset, offset_from, seek_to, sought, stays, write_from, write_on, write_place}
-use Rattle.kernel_model.specs.Families.OpenMeaning.{OpenMeaning}
+use Rattle.kernel_model.specs.Families.OpenMeaning.{OpenMeaning, moved_part}
 use Rattle.kernel_model.specs.Outcome.{Outcome, is_parked, replies}
 use Rattle.kernel_model.specs.Proper.{AllCarryOn, CarriesOn, IsIn, IsPlain, IsProper, IsUnset, OrWaits, Sender, may_send}
 use Rattle.kernel_model.specs.Reply.{content, refused, success}
 use Rattle.kernel_model.specs.Sight.{behind}
 use Rattle.kernel_model.specs.State.{ProcessState, State, Table, Tree, tree_of, Part, Update, at_node, at_open, at_term, same_part, has_part, part_of, put_all, put_one, set_node, set_open, set_term}
-use Rattle.kernel_model.specs.Families.StreamCalls.{fd_read, fd_seek, fd_write, read_open, read_term, reading, seek_open, seeking, stream_part, write_open, write_term, writing, written_part}
+use Rattle.kernel_model.specs.Families.StreamCalls.{fd_read, fd_seek, fd_write, has_offset, read_open, read_term, reading, seek_open, seeking, stream_part, write_open, write_term, writing, written_part}
 use Rattle.kernel_model.specs.Families.TreeUpdates.{node_update}
 use Rattle.kernel_model.specs.Valid.{IsNearlyValid}
 use Rattle.kernel_model.specs.View.{View, restrict, whole}
@@ -41,7 +41,7 @@ use Rattle.kernel_model.proofs.Valids.{IsSameBehind, set_open_nearly_valid, set_
 -- What is shown of each outcome for an open, where its thread may wait or not: of a state that is seen so, with that open.
 record Fine (errors : List Errno) (may_wait : Bool) (touched : List Part) (v : View) (o : ℕ) (kind : Option OpenKind) (outcome : Outcome) : Type 0 where
   apart : AreOfNoProcess outcome.updates
-  sets : (q : Part) → has_part (at_open o ∷ touched) q ≡ false → IsUnset outcome q
+  sets : (q : Part) → has_part touched q ≡ false → IsUnset outcome q
   plain : (p : ℕ) (own : Option ProcessState) → OrWaits may_wait p own outcome (IsPlain errors outcome)
   carries : (S : State) → whole S ≡ v → (table : Table) → AllCarryOn S (table, [], may_send errors) outcome
   valid : (S : State) → whole S ≡ v → get S.opens o ≡ kind → IsNearlyValid S → IsNearlyValid (put_all outcome.updates S)
@@ -83,7 +83,7 @@ same_with_offset node old new flags = record { base = refl; inheriting = refl; b
 
 fine_moved : (errors : List Errno) (may_wait : Bool) (touched : List Part) (v : View) (o node old new flags : ℕ) (reply : Reply) → reply.denial ≡ None
     → reply.errno ≡ Success
-    → Fine errors may_wait touched v o (Some (File node old flags)) (done reply (set_open o (File node new flags) ∷ []))
+    → Fine errors may_wait (at_open o ∷ touched) v o (Some (File node old flags)) (done reply (set_open o (File node new flags) ∷ []))
 fine_moved errors may_wait touched v o node old new flags reply plain success = record {
   apart = (tt, tt);
   sets = λ q h. ap (λ b. b || false) (outside_cons (at_open o) touched q h).0;
@@ -96,7 +96,7 @@ fine_term : (errors : List Errno) (may_wait : Bool) (v : View) (o which : ℕ) (
     → reply.errno ≡ Success → Fine errors may_wait (at_term which ∷ []) v o kind (done reply (set_term which stream ∷ []))
 fine_term errors may_wait v o which kind stream reply plain success = record {
   apart = (tt, tt);
-  sets = λ q h. (outside_cons (at_open o) (at_term which ∷ []) q h).1;
+  sets = λ q h. h;
   plain = done_plainly errors may_wait reply (set_term which stream ∷ []) plain success;
   carries = λ S seen table. (tt, tt);
   valid = λ S seen there nearly. set_term_nearly_valid S which stream nearly;
@@ -134,7 +134,7 @@ module _ (v : View) (w : Tree) (o node old new flags : ℕ) (works : is_file v.b
       (set_node_nearly_valid S node n w other there nearly)
 
   fine_written : (errors : List Errno) (may_wait : Bool) (reply : Reply) → reply.denial ≡ None → reply.errno ≡ Success
-      → Fine errors may_wait (at_node node ∷ []) v o (Some (File node old flags)) (done reply (written_to (get w.nodes node)))
+      → Fine errors may_wait (at_open o ∷ at_node node ∷ []) v o (Some (File node old flags)) (done reply (written_to (get w.nodes node)))
   fine_written errors may_wait reply plain success = record {
     apart = written_apart (get w.nodes node);
     sets = written_sets (get w.nodes node);
@@ -146,7 +146,7 @@ module _ (v : View) (w : Tree) (o node old new flags : ℕ) (works : is_file v.b
 -- a meaning of such outcomes
 fine_opens_well : (m : OpenMeaning)
     → ((now : ℕ) (S : State) (p o : ℕ) (kind : Option OpenKind) → m.effect now (restrict S (seen_parts S p o kind)) o kind ≡ m.effect now (whole S) o kind)
-    → ((now : ℕ) (v : View) (o : ℕ) (kind : Option OpenKind) → Fine m.errors m.may_wait (m.touched kind) v o kind (m.effect now v o kind))
+    → ((now : ℕ) (v : View) (o : ℕ) (kind : Option OpenKind) → Fine m.errors m.may_wait (moved_part (m.moves kind) o ++ m.touched kind) v o kind (m.effect now v o kind))
     → ((S : State) (kind : Option OpenKind) (q : Part) → has_part (m.touched kind) q ≡ true → has_part (behind S kind) q ≡ true)
     → IsIn Badf m.errors → (m.takes_memory ≡ true → AllByRecursion (λ errno. errno ≢ Nomem) m.errors) → (m.may_wait ≡ true → WaitsWell m) → OpensWell m
 fine_opens_well m reads fine seen badf lacks waits = record {
@@ -163,7 +163,7 @@ fine_end : {Q : State → Type 0} {R : Sender → Type 0} (errors : List Errno) 
     → ((S : State) → IsNearlyValid S → Q S) → ((table : Table) → R (table, [], may_send errors)) → Fine errors true touched v o kind outcome
 fine_end errors touched o kind is fits holds = record {
   apart = is.apart;
-  sets = λ q h. is.sets q (outside_cons (at_open o) touched q h).1;
+  sets = is.sets;
   plain = is.plain;
   carries = λ S seen table. is.carries S seen (table, [], may_send errors) (holds table);
   valid = λ S seen there nearly. is.valid S seen there nearly (fits S nearly);
@@ -234,7 +234,7 @@ either_fine true errors may_wait touched v o kind m n first second = first
 either_fine false errors may_wait touched v o kind m n first second = second
 
 write_from_fine : (v : View) (o node offset flags now at : ℕ) (bytes : List ℕ)
-    → Fine write_errors true (at_node node ∷ []) v o (Some (File node offset flags)) (with_offset o (write_from v.branch node flags now at bytes))
+    → Fine write_errors true (at_open o ∷ at_node node ∷ []) v o (Some (File node offset flags)) (with_offset o (write_from v.branch node flags now at bytes))
 write_from_fine v o node offset flags now at [] = fine_reply _ _ _ _ _ _ (success 0 0) refl refl
 write_from_fine v o node offset flags now at (b ∷ bytes) =
     let t : Tree = v.branch in
@@ -245,7 +245,7 @@ write_from_fine v o node offset flags now at (b ∷ bytes) =
     (overwritten_reworks t node now at (b ∷ bytes)) write_errors true (success (written_count at (b ∷ bytes)) 0) refl refl)
 
 write_fine : (bytes : List ℕ) (now : ℕ) (v : View) (o : ℕ) (kind : Option OpenKind)
-    → Fine write_errors true (written_part kind) v o kind (write_open now v bytes o kind)
+    → Fine write_errors true (moved_part (has_offset kind) o ++ written_part kind) v o kind (write_open now v bytes o kind)
 write_fine bytes now v o None = fine_refused _ _ _ _ _ _ Badf ([], _, refl)
 write_fine bytes now v o (Some (Terminal which flags)) = write_term_fine bytes v o which flags (v.term which)
 write_fine bytes now v o (Some (File node offset flags)) =
@@ -328,7 +328,7 @@ read_term_fine : (n : ℕ) (v : View) (o which flags : ℕ) (stream : Option Str
 read_term_fine n v o which flags None = fine_refused _ _ _ _ _ _ Badf ([], _, refl)
 read_term_fine n v o which flags (Some stream) = fine_term _ _ _ _ which _ _ _ refl refl
 
-read_fine : (n now : ℕ) (v : View) (o : ℕ) (kind : Option OpenKind) → Fine read_errors true (stream_part kind) v o kind (read_open v n o kind)
+read_fine : (n now : ℕ) (v : View) (o : ℕ) (kind : Option OpenKind) → Fine read_errors true (moved_part (has_offset kind) o ++ stream_part kind) v o kind (read_open v n o kind)
 read_fine n now v o None = fine_refused _ _ _ _ _ _ Badf ([], _, refl)
 read_fine n now v o (Some (Terminal which flags)) = read_term_fine n v o which flags (v.term which)
 read_fine n now v o (Some (File node offset flags)) = fine_moved _ _ _ _ o node offset _ flags _ refl refl
@@ -388,11 +388,11 @@ module _ (bits whence : ℕ) where
   seek_reads now S p o (Some (Process q object)) = refl
 
   seek_to_fine : (v : View) (o node offset flags : ℕ) (place : Option ℕ)
-      → Fine (Badf ∷ Inval ∷ []) false [] v o (Some (File node offset flags)) (with_offset o (seek_to node flags place))
+      → Fine (Badf ∷ Inval ∷ []) false (at_open o ∷ []) v o (Some (File node offset flags)) (with_offset o (seek_to node flags place))
   seek_to_fine v o node offset flags None = fine_refused _ _ _ _ _ _ Inval (Badf ∷ [], [], refl)
   seek_to_fine v o node offset flags (Some place) = fine_moved _ _ _ _ o node offset place flags _ refl refl
 
-  seek_fine : (now : ℕ) (v : View) (o : ℕ) (kind : Option OpenKind) → Fine (Badf ∷ Inval ∷ []) false [] v o kind (seek_open v bits whence o kind)
+  seek_fine : (now : ℕ) (v : View) (o : ℕ) (kind : Option OpenKind) → Fine (Badf ∷ Inval ∷ []) false (moved_part (has_offset kind) o ++ []) v o kind (seek_open v bits whence o kind)
   seek_fine now v o None = fine_refused _ _ _ _ _ _ Badf ([], _, refl)
   seek_fine now v o (Some (Terminal which flags)) = fine_refused _ _ _ _ _ _ Badf ([], _, refl)
   seek_fine now v o (Some (File node offset flags)) = seek_to_fine v o node offset flags (sought v.branch node offset bits whence)

@@ -117,14 +117,14 @@ false_is_no e = absurd (not_true e)
 
 is_left_by : (reader writer : Bool) (channel : Channel) → IsLeftBy reader writer channel (channel_left reader writer channel)
 is_left_by true true channel = record {
-  reader_gone = λ _. (refl, refl, refl);
+  reader_gone = λ _. (refl, refl);
   reader_stays = λ e. false_is_no (sym e);
   writer_gone = λ _. refl;
   writer_stays = λ e. false_is_no (sym e);
   sends = omega arith;
 }
 is_left_by true false channel = record {
-  reader_gone = λ _. (refl, refl, refl);
+  reader_gone = λ _. (refl, refl);
   reader_stays = λ e. false_is_no (sym e);
   writer_gone = λ e. false_is_no e;
   writer_stays = λ _. refl;
@@ -132,14 +132,14 @@ is_left_by true false channel = record {
 }
 is_left_by false true channel = record {
   reader_gone = λ e. false_is_no e;
-  reader_stays = λ _. (refl, refl, refl);
+  reader_stays = λ _. (refl, refl);
   writer_gone = λ _. refl;
   writer_stays = λ e. false_is_no (sym e);
   sends = refl;
 }
 is_left_by false false channel = record {
   reader_gone = λ e. false_is_no e;
-  reader_stays = λ _. (refl, refl, refl);
+  reader_stays = λ _. (refl, refl);
   writer_gone = λ e. false_is_no e;
   writer_stays = λ _. refl;
   sends = refl;

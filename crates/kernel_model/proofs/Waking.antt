@@ -1,17 +1,21 @@
 -- What wakes do, and what steps, wakes and ends leave of the deadlines until which threads wait.
 --     ready_has_wake, wake_ends_wait      a ready thread has a wake, and its wakes end its wait
+--     lock_wake_has_memory      one that waited for a lock is never told that memory ran out
 --     wake_moves_only, wake_error_keeps, wake_others_stay      what a wake changes
 --     wake_keeps, wake_moves_none      it makes and ends no thread, and moves none that waits
 --     wake_keeps_valid, wake_keeps_made      what it leaves
 --     step_each, wake_each, end_each      what holds of each thread
 --     step_deadlines, wake_deadlines, end_deadlines      deadlines are kept
-use Rattle.std.proofs.Common.{◌≡◌, ◌≢◌, ◌⊎◌, ℕ, ◌+◌, Bool, true, false, not, inl, inr, Option, Some, None, IsSome, is_some, refl, sym, ap, subst, ◌∙◌, arith}
+use Rattle.std.proofs.Common.{◌≡◌, ◌≢◌, ◌⊎◌, ℕ, ◌+◌, Bool, true, false, not, inl, inr, List, ◌∷◌, Option, Some, None, IsSome, is_some, refl, sym, ap, subst, ◌∙◌, arith}
 use Rattle.std.proofs.lemmas.Bool.Decides.{eqb_tells}
 use Rattle.std.specs.Prelude.{if◌then◌else◌}
 use Rattle.std.specs.Option.{option_map}
 use Rattle.std.specs.Ordering.{nat_cmp}
 use Rattle.std.specs.FinMap.{get, get-empty, empty}
-use Rattle.abi_base.specs.declared.errno.Errno.TheVariants.{Fault, Success}
+use Rattle.abi_base.specs.declared.errno.Errno.TheVariants.{Fault, Nomem, Success}
+use Rattle.abi_structures.specs.declared.events.Subscription.{Subscription}
+use Rattle.abi_structures.specs.declared.events.What.{What}
+use Rattle.abi_structures.specs.declared.events.What.TheVariants.{Condvar, LockRdlock, LockWrlock}
 use Rattle.abi_types.specs.declared.call.Call.{Call}
 use Rattle.abi_types.specs.declared.call.Call.TheVariants as call
 use Rattle.abi_types.specs.declared.constants.Constants.{Constants}
@@ -40,7 +44,7 @@ use Rattle.kernel_model.specs.Release.{ends, is_killed, process_left}
 use Rattle.kernel_model.specs.Step.{tick, end_state, end_unreleased, step_answer, step_state, touch, IsStep, IsUntouched}
 use Rattle.kernel_model.specs.Threads.{child_made, ends_caller, ends_others, makes_child, makes_thread, moves_waiters, IsCallerAfter, IsMoved, LeavesCounts, LeavesThreads}
 use Rattle.kernel_model.specs.Valid.{IsValid}
-use Rattle.kernel_model.specs.WaitLaws.{ResumesOnly, WakesOnly}
+use Rattle.kernel_model.specs.WaitLaws.{IsOfLock, ResumesOnly, WakesOnly}
 use Rattle.kernel_model.specs.Waits.{resumed, waiting, HasDeadline, HasDeadlines, MayWait, WaitsIn}
 use Rattle.kernel_model.specs.Wakes.{answer_now, goes_on_at, is_done_now, is_ready, may_queue, woken, IsWake}
 use Rattle.kernel_model.proofs.Ends.{process_after}
@@ -48,7 +52,7 @@ use Rattle.kernel_model.proofs.Moving.{moved_as_may, moved_runs}
 use Rattle.kernel_model.proofs.Outcomes.{outcome_reads}
 use Rattle.kernel_model.proofs.Parts.{agree_through}
 use Rattle.kernel_model.proofs.Readiness.{done_stays, ready_is}
-use Rattle.kernel_model.proofs.Refusals.{error_keeps}
+use Rattle.kernel_model.proofs.Refusals.{IsNoLackOf, error_keeps, reply_no_lack, same_reply}
 use Rattle.kernel_model.proofs.Steps.{end_ends_only, step_keeps_made, step_keeps_valid, step_moves_only}
 use Rattle.kernel_model.proofs.Tests.{none_is_no, not_true, same_some}
 use Rattle.kernel_model.proofs.Threading.{each_of, thread_apart, thread_here, with_apart, with_counts, with_keeps, with_valid}
@@ -83,7 +87,8 @@ queues_then constants S who call word kept ready parked =
 pub ready_has_wake : (constants : Constants) (S : State) (who : Who) (call : Call) (word : ℕ) → WaitsIn S who call → is_ready constants S who.pid who.tid ≡ true
     → IsWake constants S who call (wake.Plain word) (step_answer constants (resumed S who) who (with_word word call))
     (step_state constants (resumed S who) who (with_word word call))
-ready_has_wake constants S who call word kept ready = (inl (refl, refl), queues_then constants S who call word kept ready)
+ready_has_wake constants S who call word kept ready =
+    (inl (refl, refl), queues_then constants S who call word kept ready, λ by. (refl, refl))
 
 pub wake_ends_wait : (constants : Constants) (S : State) (who : Who) (call : Call) (word : ℕ) (answered : Answer) (T : State) → WaitsIn S who call
     → is_ready constants S who.pid who.tid ≡ true → IsStep constants (resumed S who) who (with_word word call) answered T
@@ -91,6 +96,38 @@ pub wake_ends_wait : (constants : Constants) (S : State) (who : Who) (call : Cal
 wake_ends_wait constants S who call word answered T kept ready (inl done) parked =
     queues_then constants S who call word kept ready (sym (ap is_parked done.0) ∙ parked)
 wake_ends_wait constants S who call word answered T kept ready (inr lacking) parked = absurd (not_true (sym (ap is_parked lacking.1) ∙ parked))
+
+-- ---- lack of memory
+
+fault_is_other : Fault ≢ Nomem
+fault_is_other e = cc
+
+-- where the wake is what the step of its call is, which of its own answers no lack of memory, it answers none
+memory_left : (constants : Constants) (S : State) (who : Who) (call : Call) (word : ℕ) (reply : Reply) (T : State) → IsNoLackOf (with_word word call)
+    → (meaning_of call).by_stage ≡ true → IsWake constants S who call (wake.Plain word) (answer.Reply reply) T → reply.errno ≢ Nomem
+memory_left constants S who call word reply T none by is =
+    reply_no_lack constants (resumed S who) who (with_word word call) reply none (sym (is.2 by).0)
+
+abbrev poll_of : ℕ → What → List Subscription → Call
+poll_of userdata what rest = call.Poll (record { userdata = userdata; what = what } ∷ rest)
+
+memory_left_plain : (constants : Constants) (S : State) (who : Who) (userdata : ℕ) (what : What) (rest : List Subscription) (word : ℕ) (reply : Reply)
+    (T : State) → IsOfLock what → IsWake constants S who (poll_of userdata what rest) (wake.Plain word) (answer.Reply reply) T → reply.errno ≢ Nomem
+memory_left_plain constants S who userdata (LockRdlock lock old scope) rest word reply T of is =
+    memory_left constants S who (poll_of userdata (LockRdlock lock old scope) rest) word reply T tt refl is
+memory_left_plain constants S who userdata (LockWrlock lock old scope) rest word reply T of is =
+    memory_left constants S who (poll_of userdata (LockWrlock lock old scope) rest) word reply T tt refl is
+memory_left_plain constants S who userdata (Condvar condvar condvar_word lock old condvar_scope lock_scope) rest word reply T of is =
+    memory_left constants S who (poll_of userdata (Condvar condvar condvar_word lock old condvar_scope lock_scope) rest) word reply T tt refl is
+memory_left_plain constants S who userdata _ rest word reply T of is = absurd of
+
+pub lock_wake_has_memory : (constants : Constants) (S : State) (who : Who) (userdata : ℕ) (what : What) (rest : List Subscription) (given : WakeIn)
+    (reply : Reply) (T : State) → IsOfLock what
+    → IsWake constants S who (poll_of userdata what rest) given (answer.Reply reply) T → reply.errno ≢ Nomem
+lock_wake_has_memory constants S who userdata what rest (wake.Plain word) reply T of is =
+    memory_left_plain constants S who userdata what rest word reply T of is
+lock_wake_has_memory constants S who userdata what rest wake.Fault reply T of is = λ errno.
+    fault_is_other (sym (ap (λ (r : Reply). r.errno) (same_reply reply (refused Fault) is.0)) ∙ errno)
 
 -- ---- what a wake changes
 

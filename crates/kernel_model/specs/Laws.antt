@@ -227,8 +227,8 @@ HungUpByEnd =
 -- A channel that has lost its reader or its writer, or not: without its reader nothing waits in it, without its writer what waits still
 -- does, and the count of all its sends stays.
 pub record IsLeftBy (reader writer : Bool) (before after : Channel) : Type 0 where
-  pub reader_gone : reader ≡ true → (after.reader ≡ Gone) × (after.waiting ≡ []) × (after.drawn ≡ 0)
-  pub reader_stays : reader ≡ false → (after.reader ≡ before.reader) × (after.waiting ≡ before.waiting) × (after.drawn ≡ before.drawn)
+  pub reader_gone : reader ≡ true → (after.reader ≡ Gone) × (after.waiting ≡ [])
+  pub reader_stays : reader ≡ false → (after.reader ≡ before.reader) × (after.waiting ≡ before.waiting)
   pub writer_gone : writer ≡ true → after.writer ≡ Gone
   pub writer_stays : writer ≡ false → after.writer ≡ before.writer
   pub sends : after.left + length after.waiting ≡ before.left + length before.waiting

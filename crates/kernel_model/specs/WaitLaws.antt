@@ -1,10 +1,14 @@
 -- What holds of threads that wait, of their wakes and of idle jumps: the statements that are the contracts of the functions of
 -- src/wait_laws.rt.
-use Rattle.std.specs.Prelude.{◌≡◌, ◌≢◌, ◌⊎◌, ℕ, ◌+◌, ◌^◌, ◌==◌, ◌<◌, ◌≤◌, Bool, true, false, List, Option, None, Some, IsSome, if◌then◌else◌}
+use Rattle.std.specs.Prelude.{◌≡◌, ◌≢◌, ◌⊎◌, ⊤, ℕ, ◌+◌, ◌^◌, ◌==◌, ◌<◌, ◌≤◌, Bool, true, false, List, ◌∷◌, Option, None, Some, IsSome, if◌then◌else◌}
 use Rattle.std.specs.FinMap.{get}
-use Rattle.abi_base.specs.declared.errno.Errno.TheVariants.{Success}
+use Rattle.abi_base.specs.declared.errno.Errno.TheVariants.{Nomem, Success}
 use Rattle.abi_base.specs.declared.grant.Grant.{Grant}
+use Rattle.abi_structures.specs.declared.events.Subscription.{Subscription}
+use Rattle.abi_structures.specs.declared.events.What.{What}
+use Rattle.abi_structures.specs.declared.events.What.TheVariants.{Condvar, LockRdlock, LockWrlock}
 use Rattle.abi_types.specs.declared.call.Call.{Call}
+use Rattle.abi_types.specs.declared.call.Call.TheVariants.{Poll}
 use Rattle.abi_types.specs.declared.constants.Constants.{Constants}
 use Rattle.abi_types.specs.declared.reply.Answer.{Answer}
 use Rattle.abi_types.specs.declared.reply.Answer.TheVariants as answer
@@ -96,13 +100,26 @@ ReadyHasWake =
     → IsWake constants S who call (wake.Plain word) (step_answer constants (resumed S who) who (with_word word call))
     (step_state constants (resumed S who) who (with_word word call))
 
--- Each step of the call from there is a wake of a ready thread: it ends the wait, or the thread has left its condition variable and waits for
--- the lock.
+-- Each step of the call from there ends the wait of a ready thread, or the thread has left its condition variable and waits for the lock.
 abbrev pub WakeEndsWait : Type 0
 WakeEndsWait =
     (constants : Constants) (S : State) (who : Who) (call : Call) (word : ℕ) (answered : Answer) (T : State) → WaitsIn S who call
     → is_ready constants S who.pid who.tid ≡ true → IsStep constants (resumed S who) who (with_word word call) answered T
     → is_parked answered ≡ true → may_queue call who.stage ≡ true
+
+-- what a thread waits for is a lock, or a signal at a condition variable with a lock
+abbrev pub IsOfLock : What → Type 0
+IsOfLock (LockRdlock lock word scope) = ⊤
+IsOfLock (LockWrlock lock word scope) = ⊤
+IsOfLock (Condvar condvar condvar_word lock lock_word condvar_scope lock_scope) = ⊤
+IsOfLock other = ⊥
+
+-- A thread that waited for a lock or at a condition variable is never told that memory ran out.
+abbrev pub LockWakeHasMemory : Type 0
+LockWakeHasMemory =
+    (constants : Constants) (S : State) (who : Who) (userdata : ℕ) (what : What) (rest : List Subscription) (given : WakeIn) (reply : Reply) (T : State)
+    → IsOfLock what → IsWake constants S who (Poll (record { userdata = userdata; what = what } ∷ rest)) given (answer.Reply reply) T
+    → reply.errno ≢ Nomem
 
 -- The state in which a thread runs that waited differs in nothing but what this thread does.
 pub record ResumesOnly (S : State) (who : Who) (R : State) : Type 0 where

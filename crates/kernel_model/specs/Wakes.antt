@@ -20,7 +20,7 @@ use Rattle.kernel_model.specs.Families.Locks.{first_awaited, is_condition, with_
 use Rattle.kernel_model.specs.Outcome.{is_parked}
 use Rattle.kernel_model.specs.Reply.{refused}
 use Rattle.kernel_model.specs.State.{State, thread_of}
-use Rattle.kernel_model.specs.Step.{failed, outcome_by, IsStep}
+use Rattle.kernel_model.specs.Step.{failed, outcome_by, step_answer, step_state, IsStep}
 use Rattle.kernel_model.specs.View.{whole}
 use Rattle.kernel_model.specs.Waits.{resumed, IsParked}
 
@@ -70,14 +70,20 @@ abbrev pub woken : Call → WakeIn → Call
 woken call wake.Fault = call
 woken call (wake.Plain word) = with_word word call
 
+-- the wake answers what its call is, and never that memory ran out
+abbrev pub LacksNoMemory : Constants → State → Who → Call → Answer → State → Type 0
+LacksNoMemory constants S who call answered T = (answered ≡ step_answer constants S who call) × (T ≡ step_state constants S who call)
+
 -- A wake of a thread that waits in a call, which was made at the moment `since` of `who`, has this answer and leaves this state: it is a
 -- step of that call, with the word that its lock has now, from the state in which the thread runs already, and it ends the wait, unless the
--- thread has left its condition variable and waits for the lock. Where the word or the places of the call's output aren't accessible any
--- more it is refused, and the thread runs.
+-- thread has left its condition variable and waits for the lock. A thread that waited for a lock or at a condition variable is never told
+-- that memory ran out, since it has been given the lock, or its signal is used up. Where the word or the places of the call's output aren't
+-- accessible any more it is refused, and the thread runs.
 abbrev pub IsWake : Constants → State → Who → Call → WakeIn → Answer → State → Type 0
 IsWake constants S who call wake.Fault answered T = (answered ≡ answer.Reply (refused Fault)) × (T ≡ failed (resumed S who) who)
 IsWake constants S who call (wake.Plain word) answered T =
     IsStep constants (resumed S who) who (with_word word call) answered T × (is_parked answered ≡ true → may_queue call who.stage ≡ true)
+    × ((meaning_of call).by_stage ≡ true → LacksNoMemory constants (resumed S who) who (with_word word call) answered T)
 
 -- ---- idle jumps
 

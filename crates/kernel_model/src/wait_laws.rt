@@ -1,6 +1,6 @@
 //! Laws of threads that wait, of their wakes and of idle jumps. The statements are in `specs/WaitLaws.antt`, and each holds of
 //! every state, process and call.
-ghost use Rattle.kernel_model.specs.WaitLaws.{ParkingIsAllowed, ParkingKeeps, ReadyStays, DueIsReady, ReadyDecided, ReadyHasWake, WakeEndsWait};
+ghost use Rattle.kernel_model.specs.WaitLaws.{ParkingIsAllowed, ParkingKeeps, ReadyStays, DueIsReady, ReadyDecided, ReadyHasWake, WakeEndsWait, LockWakeHasMemory};
 ghost use Rattle.kernel_model.specs.WaitLaws.{ResumedRuns, ResumedSeesSame, WakeKeepsThreads, WakeMovesNone, WakeMovesOnly, WakeErrorKeeps, WakeOthersStay, WakeKeepsValid, IdleKeepsValid, DeadlinesAreKept};
 ghost use Rattle.kernel_model.specs.WaitLaws.{LeastIsLeast, LeastIsSoon, IdleJumps, JumpReadies};
 
@@ -21,10 +21,12 @@ pub fn ready_stays_ready()
 {}
 
 /// A thread that is ready has a wake, and a wake ends its wait: the call has a reply, done in the state in which the thread runs. Or the thread
-/// has left its condition variable, and waits for the lock.
+/// has left its condition variable, and waits for the lock. A thread that waited for a lock or at a condition variable is never told that
+/// memory ran out.
 pub fn wakes_end_waits()
     ensures there { ReadyHasWake }
     ensures ends { WakeEndsWait }
+    ensures memory { LockWakeHasMemory }
 {}
 
 /// A wake is a step of the call from the state in which its thread runs, which differs from the state before in nothing else. It

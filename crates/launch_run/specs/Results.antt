@@ -93,8 +93,8 @@ pub record IsKept (given : Option Settings) (described : Described) (r : Record)
   pub kept_is : IsKeptOf (history_with given) r.history r.kept
 
 -- The record's history is as the headline has it: one history of its launch, by which no entry reads or changes anything but its process's
--- own and what that process's descriptors reach with the rights needed, traced through recorded grants, along which rights never grow; and
--- every rights refusal names exactly those missing.
+-- own and what that process's descriptors reach with the rights needed, traced through recorded grants, along which rights never grow; of
+-- memories and registers it reads and changes its process's alone; and every rights refusal names exactly those missing.
 abbrev pub IsConfinedRecord : Record → Type 0
 IsConfinedRecord r = IsConfinedHistory r.launch r.history
 

@@ -18,7 +18,7 @@ use abi_types::Status;
 use book_report::{Ending, RunEnd, Shown, record_of, report_run};
 use command_line::{CommandLineFault, LaunchSettings, read_words};
 use input_output::{Sink, Source};
-use kernel_cell::Record;
+use kernel_cell::{Begun, Record};
 use launch_reading::{LaunchRefusal, read_launch};
 use lists::Stop;
 use process_cell::{Driven, Gate, drive};
@@ -58,11 +58,14 @@ fn run_launched<K: Sink, G: Gate + Sync, R: Threads + Wait + Sync>(
     ensures faults_never_fall { K.faults sink.old ≤ K.faults sink.new }
     ensures end { IsEndOf launch (keeps_entries shown) (shown_text shown) (growth K.written K.faults sink.old sink.new) result }
 {
-    match drive(rt, alloc, launch, workers, gate, shown.keeps_entries()) {
+    let Ok(begun) = Begun::begin(alloc, launch, shown.keeps_entries()) else {
+        return RunEnd::NotBegun;
+    };
+    match drive(rt, alloc, begun, workers, gate) {
         Driven::Ended(book) => report_run(alloc, book, Ending::Ended, shown, sink),
         Driven::Stalled(book) => report_run(alloc, book, Ending::Stalled, shown, sink),
         Driven::Lacking(book) => RunEnd::Lacking(record_of(book)),
-        Driven::NotBegun => RunEnd::NotBegun,
+        Driven::NotBegun(_) => RunEnd::NotBegun,
     }
 }
 

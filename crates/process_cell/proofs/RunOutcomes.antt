@@ -1,5 +1,5 @@
 -- The answer of a run, from the book that was closed.
-use Rattle.std.proofs.Common.{◌≡◌, ◌≢◌, ◌<◌, Bool, List, [], sym, ap, subst, ◌∙◌, arith}
+use Rattle.std.proofs.Common.{◌≡◌, ◌≢◌, ◌<◌, Bool, List, [], ◌∷◌, length, refl, sym, ap, subst, ◌∙◌, arith}
 use Rattle.abi_types.specs.declared.constants.Constants.{Constants}
 use Rattle.run_types.specs.declared.history.Entry.{Entry}
 use Rattle.run_types.specs.declared.launch.Launch.{Launch}
@@ -9,7 +9,7 @@ use Rattle.kernel_model.specs.Wakes.{IsStalled}
 use Rattle.run_model.specs.Ends.{Stalled}
 use Rattle.run_model.specs.World.{World, world}
 use Rattle.run_model.proofs.Histories.{world_constants, world_none}
-use Rattle.run_model.proofs.Worlds.{first_clock}
+use Rattle.run_model.proofs.Worlds.{clock_counts, first_clock}
 use Rattle.kernel_cell.specs.Cell.{IsBookOf}
 use Rattle.kernel_cell.specs.declared.cell.Book.{Book}
 use Rattle.process_cell.specs.Driven.{IsDriven, ComesOut}
@@ -25,6 +25,20 @@ some_entry launch all book is moved none =
     ∙ ap (λ (w : World). w.state.clock) (world_none launch)
     ∙ first_clock launch in
     omega arith
+
+-- where it stands still there is none
+no_entry : (launch : Launch) (all : Bool) (book : Book) → IsBookOf launch all book → book.kernel.clock ≡ 0 → book.history ≡ []
+no_entry launch all book is still =
+    none_by book.history (omega (
+      arith,
+      (clock_counts launch book.history is.legal).0,
+      ap (λ (S : State). S.clock) is.state,
+      still,
+    ))
+  where
+    none_by : (history : List Entry) → length history ≡ 0 → history ≡ []
+    none_by [] none = refl
+    none_by (e ∷ es) none = absurd (cc none)
 
 -- a book's constants and kernel are those of its history's world
 same_world : (launch : Launch) (all : Bool) (book : Book) → IsBookOf launch all book
@@ -59,4 +73,10 @@ driven_is launch all book (driven.Lacking b) is out = (
   subst (λ (x : Book). ¬ Stalled launch x.history) (sym out.0)
       (λ stalled. out.2 (stalled_here launch all book is stalled)),
 )
-driven_is launch all book driven.NotBegun is out = tt
+driven_is launch all book (driven.NotBegun b) is out = (
+  subst (IsBookOf launch all) (sym out.0) is,
+  subst (λ (x : Book). x.history ≡ []) (sym out.0) (no_entry launch all book is out.3),
+  subst (λ (x : Book). SomeLive x.kernel) (sym out.0) out.1,
+  subst (λ (x : Book). ¬ Stalled launch x.history) (sym out.0)
+      (λ stalled. out.2 (stalled_here launch all book is stalled)),
+)

@@ -3,7 +3,7 @@
 --     calls_there, forks_there, has_registers, has_registers_running, between, does, due_stands, due_runs, no_fork,
 --     asks_call, asks_fork, asks_wake, asks_end      what it asks the kernel for, and what is known of it then
 --     made_in, same_at, stands_at, stands_then, settled, has_place      the process at the history at which something was done
-use Rattle.std.proofs.Common.{◌≡◌, ◌≢◌, ℕ, ◌<◌, List, [], ◌∷◌, ◌++◌, Option, None, Some, IsSome, inl, inr, refl, sym, ap, subst, ◌∙◌}
+use Rattle.std.proofs.Common.{◌≡◌, ◌≢◌, ℕ, ◌<◌, Bool, true, false, List, [], ◌∷◌, ◌++◌, Option, None, Some, IsSome, inl, inr, refl, sym, ap, subst, ◌∙◌, true≢false}
 use Rattle.std.proofs.lemmas.Bool.Decides.{eqb_tells}
 use Rattle.std.specs.FinMap.{FinMap, empty, get, insert, remove, get-empty}
 use Rattle.std.specs.Option.{option_map}
@@ -41,7 +41,7 @@ use Rattle.shared_history.specs.Entries.{entry_of, head_of}
 use Rattle.shared_history.specs.Passes.{IsSeen, Later, Passing}
 use Rattle.kernel_cell.specs.Acting.{Became, Entered, HasStarted, IsActed, IsActedOn, IsAlone, IsChild, IsForked, IsForkedOn, KeepsBut, Looked, by_number, going_on}
 use Rattle.kernel_cell.specs.Asking.{Asks, AsksCall, HasNoChild}
-use Rattle.kernel_cell.specs.Places.{Threads, with_made}
+use Rattle.kernel_cell.specs.Afterwards.{Threads, with_made}
 use Rattle.kernel_cell.specs.declared.results.After.{After}
 use Rattle.kernel_cell.specs.declared.results.After.TheVariants as to
 use Rattle.kernel_cell.specs.declared.results.Asked.{Asked}
@@ -354,14 +354,16 @@ module _ (launch : Launch) (begins : MayBegin launch.tree launch.grants) (p : �
   )
 
 -- after a look
-pub looked_lives : (launch : Launch) → MayBegin launch.tree launch.grants → (v w : Passing) (body : Body) → Tied launch v body phase.Lives → Looked launch v w
-    → IsLiveIn (world launch w.seen) v.pid → Tied launch w body phase.Lives
-looked_lives launch begins v w body tied looked live =
+pub looked_lives : (launch : Launch) → MayBegin launch.tree launch.grants → (v w : Passing) (body : Body) (lives : Bool) (moment : ℕ)
+    → Tied launch v body phase.Lives → Looked launch v w lives moment → lives ≡ true → Tied launch w body phase.Lives
+looked_lives launch begins v w body lives moment tied looked on =
     at_pass launch w v.pid body phase.Lives looked.pid
-    (lives_at launch begins v.pid v.seen w.seen looked.seen.legal looked.later body.threads body.turns body.guest tied.0 live tied.1)
+    (lives_at launch begins v.pid v.seen w.seen looked.seen.legal looked.later body.threads body.turns body.guest tied.0 (looked.live.0 on) tied.1)
 
-pub looked_gone : (launch : Launch) (v w : Passing) (body : Body) → Looked launch v w → ¬ IsLiveIn (world launch w.seen) v.pid → Tied launch w body phase.Gone
-looked_gone launch v w body looked dead = at_pass launch w v.pid body phase.Gone looked.pid dead
+pub looked_gone : (launch : Launch) (v w : Passing) (body : Body) (lives : Bool) (moment : ℕ) → Looked launch v w lives moment → lives ≡ false
+    → Tied launch w body phase.Gone
+looked_gone launch v w body lives moment looked off =
+    at_pass launch w v.pid body phase.Gone looked.pid (λ alive. true≢false (sym (looked.live.1 alive) ∙ off))
 
 -- ---- what came of what a thread asked for
 
@@ -479,18 +481,18 @@ module _ (launch : Launch) (begins : MayBegin launch.tree launch.grants) (v w : 
       (came_at what result told whole)
 
   -- thread t has its place
-  pub has_place : (what : Asked) (result : Came After) → IsActed launch v t body what body' w result → IsSome (get body.threads t)
-      → HasPlaceFor t body'.threads result
-  has_place what (came.Done to.Runs) told here = subst (λ (m : Threads). IsSome (get m t)) (sym told.happens.kept.1) here
-  has_place what (came.Done (to.Starts u)) told here = tt
-  has_place what (came.Done to.Waits) told here = subst (λ (m : Threads). IsSome (get m t)) (sym told.happens.kept.1) here
-  has_place what (came.Done to.Leaves) told here = tt
-  has_place what (came.Done to.Begins) told here = subst (λ (m : Threads). IsSome (get m t)) (sym told.happens.kept.1) here
-  has_place what (came.Done to.Lost) told here = tt
-  has_place what (came.Done to.Ended) told here = tt
-  has_place what came.NotReady told here = tt
-  has_place what came.Gone told here = tt
-  has_place what came.NoMemory told here = tt
+  pub has_place : (what : Asked) (did : Doing) (result : Came After) → IsActed launch v t body what body' w result → get body.threads t ≡ Some did
+      → HasPlaceFor t did body'.threads result
+  has_place what did (came.Done to.Runs) told here = ap (λ (m : Threads). get m t) told.happens.kept.1 ∙ here
+  has_place what did (came.Done (to.Starts u)) told here = tt
+  has_place what did (came.Done to.Waits) told here = ap (λ (m : Threads). get m t) told.happens.kept.1 ∙ here
+  has_place what did (came.Done to.Leaves) told here = tt
+  has_place what did (came.Done to.Begins) told here = ap (λ (m : Threads). get m t) told.happens.kept.1 ∙ here
+  has_place what did (came.Done to.Lost) told here = tt
+  has_place what did (came.Done to.Ended) told here = tt
+  has_place what did came.NotReady told here = tt
+  has_place what did came.Gone told here = tt
+  has_place what did came.NoMemory told here = tt
 
 -- ---- a proc_fork
 

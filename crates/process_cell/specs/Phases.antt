@@ -1,13 +1,14 @@
 -- In which phase a process is after a step of a thread, and what its threads do then.
-use Rattle.std.specs.Prelude.{ℕ, Bool, true, false, IsSome}
+use Rattle.std.specs.Prelude.{◌≡◌, ℕ, Bool, true, false, Some}
 use Rattle.std.specs.FinMap.{empty, get, insert, remove}
 use Rattle.abi_types.specs.declared.call.Call.{Call}
 use Rattle.abi_types.specs.declared.call.Call.TheVariants.{ThreadYield}
-use Rattle.kernel_cell.specs.Places.{Threads}
+use Rattle.kernel_cell.specs.Afterwards.{Threads}
 use Rattle.kernel_cell.specs.declared.results.After.{After}
 use Rattle.kernel_cell.specs.declared.results.After.TheVariants as to
 use Rattle.kernel_cell.specs.declared.results.Came.{Came}
 use Rattle.kernel_cell.specs.declared.results.Came.TheVariants as came
+use Rattle.kernel_cell.specs.declared.results.Doing.{Doing}
 use Rattle.kernel_cell.specs.declared.results.Doing.TheVariants as doing
 use Rattle.rv_interp.specs.declared.turns.TurnEnd.{TurnEnd}
 use Rattle.rv_interp.specs.declared.turns.TurnEnd.TheVariants as turn_end_is
@@ -41,12 +42,12 @@ threads_after threads t (came.Done to.Leaves) = remove threads t
 threads_after threads t (came.Done to.Begins) = alone t
 threads_after threads t other = threads
 
--- thread t has its place where it goes on or waits
-abbrev pub HasPlaceFor : ℕ → Threads → Came After → Type 0
-HasPlaceFor t threads (came.Done to.Runs) = IsSome (get threads t)
-HasPlaceFor t threads (came.Done to.Waits) = IsSome (get threads t)
-HasPlaceFor t threads (came.Done to.Begins) = IsSome (get threads t)
-HasPlaceFor t threads other = Unit {0}
+-- thread t has its place where it goes on or waits, and did that before
+abbrev pub HasPlaceFor : ℕ → Doing → Threads → Came After → Type 0
+HasPlaceFor t did threads (came.Done to.Runs) = get threads t ≡ Some did
+HasPlaceFor t did threads (came.Done to.Waits) = get threads t ≡ Some did
+HasPlaceFor t did threads (came.Done to.Begins) = get threads t ≡ Some did
+HasPlaceFor t did threads other = Unit {0}
 
 -- the thread that makes this call gives way to others, whatever comes of it
 abbrev pub is_yield : Call → Bool

@@ -2,16 +2,13 @@
 //! run from its begin to the book that is closed once the workers are done.
 #![tactic(auto)]
 
-pub use gate::{Gate, OpenGate};
 pub use process::Process;
 pub use results::{Did, Phase};
 pub use run::{Driven, drive};
-pub use worker::Worker;
+pub use worker::{Gate, OpenGate, Worker};
 
-mod gate;
 mod process;
 mod results;
 mod run;
-mod tickets;
 mod worker;
 mod workers;

@@ -6,16 +6,15 @@ ghost use Rattle.call_codec.specs.Bounded.{IsBounded};
 ghost use Rattle.kernel_cell.specs.declared.results.EndBy.TheVariants as end_by;
 ghost use Rattle.process_cell.specs.declared.results.Phase.TheVariants as phase;
 ghost use Rattle.process_cell.specs.Process.{IsDue, RunsIn, WaitsIn, new_pass, first_standing};
-ghost use Rattle.process_cell.specs.Steps.{IsCalled, IsForked, IsFinished, IsEnded, IsLooked, IsRun, IsStepped, turned_standing};
+ghost use Rattle.process_cell.specs.Steps.{IsCalled, IsForked, IsFinished, IsEnded, IsLooked, IsRun, IsStepped, TellsWait, asker, turned_standing};
 
-use crate::gate::Gate;
 use crate::results::{
     Did, Phase, born, gives_way, going_on, one_running, phase_after_turn, settle,
 };
-use crate::worker::Worker;
+use crate::worker::{Gate, Worker};
 use abi_types::{Call, Pid, Signal, Tid, TidList};
 use guest_process::{FIRST_THREAD, Guest};
-use kernel_cell::{After, Body, Came, Doing, EndBy, Naming, Pass, Times};
+use kernel_cell::{After, Asked, Body, Came, Doing, EndBy, Naming, Pass, Times};
 use maps::NumMap;
 use run_types::Launch;
 use rv_interp::TurnEnd;
@@ -127,6 +126,7 @@ impl<J: Naming> Process<J> {
         requires { self.old.phase ≡ phase.Calls tid }
         ensures same { self.new.pid ≡ self.old.pid }
         ensures called { IsCalled J.launch tid self.old self.new result.came result.gives_way }
+        ensures told { TellsWait J.launch tid self.new result.came told.new }
     {
         let Ok(call) = self.body.guest.call(worker.alloc, tid) else {
             self.phase = Phase::Lost;
@@ -137,11 +137,12 @@ impl<J: Naming> Process<J> {
             return Did::unasked(Came::Done(After::Runs));
         }
         let yields = gives_way(&call);
-        let (came, times) = worker
+        let what = Asked::Calls(call);
+        let came = worker
             .cell
-            .act(worker.rt, &mut self.pass, &mut self.body, tid, call);
-        self.phase = settle(&mut self.body.threads, tid, &came);
-        Did::answered(came, yields, times, told)
+            .act(worker.rt, &mut self.pass, &mut self.body, tid, what, told);
+        self.phase = settle(&mut self.body.threads, tid, Doing::Runs, &came);
+        Did::answered(came, yields, told)
     }
 
     // The proc_fork at which the last turn, of this thread, ended, and the child, where one was made. What the child's thread does is noted
@@ -162,13 +163,13 @@ impl<J: Naming> Process<J> {
         };
         let left = self.left();
         let call = Call::ProcFork { left };
-        let (forked, times) = worker
+        let forked = worker
             .cell
-            .fork(worker.rt, &mut self.pass, &mut self.body, tid, call);
+            .fork(worker.rt, &mut self.pass, &mut self.body, tid, call, told);
         let came = going_on(&forked);
-        self.phase = settle(&mut self.body.threads, tid, &came);
+        self.phase = settle(&mut self.body.threads, tid, Doing::Runs, &came);
         let Some((pass, guest)) = born(forked) else {
-            return (Did::answered(came, false, times, told), None);
+            return (Did::answered(came, false, told), None);
         };
         let child = Process {
             body: Body {
@@ -179,7 +180,7 @@ impl<J: Naming> Process<J> {
             phase: Phase::Lives,
             pass,
         };
-        (Did::answered(came, true, times, told), Some(child))
+        (Did::answered(came, true, told), Some(child))
     }
 
     /// The proc_fork at which the last turn, of this thread, ended: the kernel answers it, and it is an entry of the history. With it comes
@@ -213,12 +214,14 @@ impl<J: Naming> Process<J> {
         requires { WaitsIn tid self.old }
         ensures same { self.new.pid ≡ self.old.pid }
         ensures finished { IsFinished J.launch tid self.old self.new result.came result.gives_way }
+        ensures told { TellsWait J.launch tid self.new result.came told.new }
     {
-        let (came, times) = worker
+        let what = Asked::Wakes;
+        let came = worker
             .cell
-            .wake(worker.rt, &mut self.pass, &mut self.body, tid);
-        self.phase = settle(&mut self.body.threads, tid, &came);
-        Did::answered(came, true, times, told)
+            .act(worker.rt, &mut self.pass, &mut self.body, tid, what, told);
+        self.phase = settle(&mut self.body.threads, tid, Doing::Waits, &came);
+        Did::answered(came, true, told)
     }
 
     // Its end from outside, by a thread of it, which is an entry of the history.
@@ -233,12 +236,14 @@ impl<J: Naming> Process<J> {
         ensures same { self.new.pid ≡ self.old.pid }
         ensures left { self.new.left ≡ self.old.left }
         ensures ended { IsEnded J.launch how tid self.old self.new result.came result.gives_way }
+        ensures told { TellsWait J.launch tid self.new result.came told.new }
     {
-        let (came, times) = worker
+        let what = Asked::Ends(how);
+        let came = worker
             .cell
-            .end(worker.rt, &mut self.pass, &mut self.body, tid, how);
-        self.phase = settle(&mut self.body.threads, tid, &came);
-        Did::answered(came, false, times, told)
+            .act(worker.rt, &mut self.pass, &mut self.body, tid, what, told);
+        self.phase = settle(&mut self.body.threads, tid, Doing::Runs, &came);
+        Did::answered(came, false, told)
     }
 
     /// The trap by which the last turn, of this thread, ended: it ends the process with all its threads.
@@ -253,6 +258,7 @@ impl<J: Naming> Process<J> {
         ensures same { self.new.pid ≡ self.old.pid }
         ensures left { self.new.left ≡ self.old.left }
         ensures ended { IsEnded J.launch (end_by.Trap signal) tid self.old self.new result.came result.gives_way }
+        ensures told { TellsWait J.launch tid self.new result.came told.new }
     {
         self.end(worker, told, tid, EndBy::Trap(signal))
     }
@@ -269,6 +275,7 @@ impl<J: Naming> Process<J> {
         ensures same { self.new.pid ≡ self.old.pid }
         ensures left { self.new.left ≡ self.old.left }
         ensures ended { IsEnded J.launch end_by.Expire tid self.old self.new result.came result.gives_way }
+        ensures told { TellsWait J.launch tid self.new result.came told.new }
     {
         self.end(worker, told, tid, EndBy::Expire)
     }
@@ -283,6 +290,7 @@ impl<J: Naming> Process<J> {
         requires { RunsIn tid self.old → self.old.left ≡ 0 }
         ensures same { self.new.pid ≡ self.old.pid }
         ensures stepped { IsStepped J.launch tid self.old self.new result.came result.gives_way }
+        ensures told { TellsWait J.launch (asker self.old.phase tid) self.new result.came told.new }
     {
         match self.phase() {
             Phase::Lives => match self.doing(tid) {
@@ -308,6 +316,7 @@ impl<J: Naming> Process<J> {
         requires { RunsIn tid self.old → self.old.left ≡ 0 }
         ensures same { self.new.pid ≡ self.old.pid }
         ensures stepped { IsStepped J.launch tid self.old self.new result.came result.gives_way }
+        ensures told { TellsWait J.launch (asker self.old.phase tid) self.new result.came told.new }
     {
         worker
             .gate
@@ -328,6 +337,7 @@ impl<J: Naming> Process<J> {
         requires left { 0 < self.old.left }
         ensures same { self.new.pid ≡ self.old.pid }
         ensures run { IsRun J.launch tid self.old self.new result.came result.gives_way }
+        ensures told { TellsWait J.launch tid self.new result.came told.new }
     {
         worker.gate.turning(worker.number, self.pid(), tid);
         match self.turn(tid) {
@@ -348,6 +358,7 @@ impl<J: Naming> Process<J> {
     ) -> Did
         ensures same { self.new.pid ≡ self.old.pid }
         ensures stepped { IsStepped J.launch tid self.old self.new result.came result.gives_way }
+        ensures told { TellsWait J.launch (asker self.old.phase tid) self.new result.came told.new }
     {
         match self.phase() {
             Phase::Lives => match self.doing(tid) {
@@ -370,7 +381,7 @@ impl<J: Naming> Process<J> {
 
     /// Looks whether others have ended the process, where it is between two steps, and gives the moment then.
     pub fn look<R: Wait, G: Gate>(&mut self, worker: &Worker<'_, J, R, G>) -> u64
-        ensures { IsLooked self.old self.new }
+        ensures { IsLooked J.launch self.old self.new result }
     {
         if let Phase::Lives = self.phase {
             let (lives, moment) = worker.cell.look(worker.rt, &mut self.pass);

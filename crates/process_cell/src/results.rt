@@ -1,9 +1,10 @@
 //! In which phase a process is, and what came of a step of a thread.
-ghost use Rattle.std.specs.Prelude.{◌≡◌, true, false, IfSome, IsSome};
+ghost use Rattle.std.specs.Prelude.{◌≡◌, true, false, IfSome, IsSome, Some};
 ghost use Rattle.std.specs.FinMap as map;
 ghost use Rattle.process_cell.specs.Phases.{alone, is_yield, phase_after, phase_after_turn, threads_after, HasPlaceFor};
 ghost use Rattle.process_cell.specs.Steps.{born};
 ghost use Rattle.kernel_cell.specs.Acting.{going_on};
+ghost use Rattle.kernel_cell.specs.declared.results.Doing.TheVariants as doing;
 
 use abi_types::{Call, Signal, Tid};
 use guest_process::Guest;
@@ -32,7 +33,7 @@ pub enum Phase {
 /// What came of a step of a thread.
 #[derive(Clone, Copy)]
 pub struct Did {
-    /// What became of the thread. It is gone also where it had ended before.
+    /// What became of the thread.
     pub came: Came<After>,
     /// Whether it gives way to others, where it goes on.
     pub gives_way: bool,
@@ -50,22 +51,16 @@ impl Did {
         }
     }
 
-    /// This, with what the kernel told, if it told more than that the thread goes on. The thread gives way where it is to, and where others
-    /// are to be looked at again.
-    pub(crate) fn answered(
-        came: Came<After>,
-        gives_way: bool,
-        times: Option<Times>,
-        told: &mut Option<Times>,
-    ) -> Did
+    /// This, with what the kernel has told. The thread gives way where it is to, and where others are to be looked at again. By what was told
+    /// with an earlier answer none is, since the thread would have given way then.
+    pub(crate) fn answered(came: Came<After>, gives_way: bool, told: &Option<Times>) -> Did
         ensures came { result.came ≡ came }
         ensures gives { gives_way ≡ true → result.gives_way ≡ true }
     {
-        let Some(times) = times else {
-            return Did { came, gives_way };
+        let others = match told {
+            Some(times) => !times.wakes.is_empty(),
+            None => false,
         };
-        let others = !times.wakes.is_empty();
-        *told = Some(times);
         Did {
             came,
             gives_way: gives_way || others,
@@ -128,16 +123,27 @@ fn keep_only(threads: &mut NumMap<Doing>, tid: Tid)
     threads.replace(key, Doing::Runs);
 }
 
-// Has the threads of a process do what they do after this came of what thread `tid` asked for. It takes no memory.
-fn take_came(threads: &mut NumMap<Doing>, tid: Tid, came: &Came<After>)
-    requires { HasPlaceFor tid threads.old came.now }
+// A thread takes turns, which did this before.
+fn take_turns(threads: &mut NumMap<Doing>, tid: Tid, did: Doing)
+    requires { map.get threads.old tid ≡ Some did }
+    ensures { threads.new ≡ map.insert threads.old tid doing.Runs }
+{
+    match did {
+        Doing::Runs => {}
+        Doing::Waits => {
+            threads.replace(u64::from(tid.0), Doing::Runs);
+        }
+    }
+}
+
+// Has the threads of a process do what they do after this came of what thread `tid` asked for, which did that before. It takes no memory.
+fn take_came(threads: &mut NumMap<Doing>, tid: Tid, did: Doing, came: &Came<After>)
+    requires { HasPlaceFor tid did threads.old came.now }
     ensures { threads.new ≡ threads_after threads.old tid came.now }
 {
     let key = u64::from(tid.0);
     match came {
-        Came::Done(After::Runs) => {
-            threads.replace(key, Doing::Runs);
-        }
+        Came::Done(After::Runs) => take_turns(threads, tid, did),
         Came::Done(After::Waits) => {
             threads.replace(key, Doing::Waits);
         }
@@ -150,12 +156,12 @@ fn take_came(threads: &mut NumMap<Doing>, tid: Tid, came: &Came<After>)
 }
 
 // The same, and the phase in which the process is then.
-pub(crate) fn settle(threads: &mut NumMap<Doing>, tid: Tid, came: &Came<After>) -> Phase
-    requires { HasPlaceFor tid threads.old came.now }
+pub(crate) fn settle(threads: &mut NumMap<Doing>, tid: Tid, did: Doing, came: &Came<After>) -> Phase
+    requires { HasPlaceFor tid did threads.old came.now }
     ensures threads { threads.new ≡ threads_after threads.old tid came.now }
     ensures phase { result ≡ phase_after came.now }
 {
-    take_came(threads, tid, came);
+    take_came(threads, tid, did, came);
     phase_after(came)
 }
 

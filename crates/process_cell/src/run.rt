@@ -1,20 +1,19 @@
-//! The run of a launch, from its begin to the closed book.
+//! The run of a launch that has begun, to the closed book.
 ghost use Rattle.std.specs.Prelude.{◌≡◌};
 ghost use Rattle.call_codec.specs.Bounded.{IsBounded};
 ghost use Rattle.kernel_cell.specs.Cell.{IsBookOf};
 ghost use Rattle.process_cell.specs.Driven.{ComesOut, IsDriven};
 
-use crate::gate::Gate;
 use crate::process::Process;
+use crate::worker::Gate;
 use crate::workers::run_process;
 use kernel_cell::{Begun, Book, Naming};
-use run_types::Launch;
 use std::alloc::Global;
 use std::marker::Brand;
 use std::sync::Wait;
 use std::thread::Threads;
 
-/// How a run came out.
+/// How a run came out, with its book.
 #[derive(Drop)]
 pub enum Driven {
     /// It ended: no process is live.
@@ -23,8 +22,8 @@ pub enum Driven {
     Stalled(Book),
     /// Memory ran out before it ended. The book has what came until then, which is at least one entry.
     Lacking(Book),
-    /// Memory ran out before its first entry.
-    NotBegun,
+    /// Memory ran out before its first entry, and the book has none.
+    NotBegun(Book),
 }
 
 // Runs a launch that has begun, by its name.
@@ -60,25 +59,20 @@ fn outcome(book: Book) -> Driven
     } else if book.kernel.moment() > 0 {
         Driven::Lacking(book)
     } else {
-        Driven::NotBegun
+        Driven::NotBegun(book)
     }
 }
 
-/// Runs a launch to its end with this many workers, each a thread of its own. The gate is passed at each step of a process. Where
-/// `all` is set, all entries of the history are kept in memory; else those of denied calls.
+/// Runs a launch that has begun to its end with this many workers, each a thread of its own. The gate is passed at each step of a process.
 pub fn drive<R: Threads + Wait + Sync, G: Gate + Sync>(
     rt: &R,
     alloc: Global,
-    launch: Launch,
+    begun: Begun,
     workers: u32,
     gate: &G,
-    all: bool,
 ) -> Driven
-    requires { IsBounded launch }
-    ensures { IsDriven launch all result }
+    requires { IsBounded begun.launch }
+    ensures { IsDriven begun.launch begun.keeps_all result }
 {
-    match Begun::begin(alloc, launch, all) {
-        Ok(begun) => outcome(run_named::<Brand, R, G>(rt, alloc, begun, workers, gate)),
-        Err(_) => Driven::NotBegun,
-    }
+    outcome(run_named::<Brand, R, G>(rt, alloc, begun, workers, gate))
 }

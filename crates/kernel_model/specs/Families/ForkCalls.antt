@@ -149,6 +149,7 @@ exec_open key p t table v _ = replies (refused Badf)
 abbrev pub executing : List ℕ → ℕ → ℕ → Table → OpenMeaning
 executing key p t table = record {
   effect = λ now v o. exec_open key p t table v;
+  moves = λ kind. false;
   touched = λ kind. [];
   errors = Badf ∷ Noexec ∷ Again ∷ [];
   takes_memory = true;

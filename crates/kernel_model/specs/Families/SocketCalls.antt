@@ -125,6 +125,7 @@ fd_create2 kind = record (answering (Notsup ∷ Mfile ∷ Again ∷ []) (success
 abbrev pub sending : List ℕ → List Descriptor → OpenMeaning
 sending bytes carried = record {
   effect = λ now v o. send_open v bytes carried;
+  moves = λ kind. false;
   touched = sent_part;
   errors = Badf ∷ Notsock ∷ Again ∷ Pipe ∷ [];
   takes_memory = true;
@@ -144,6 +145,7 @@ sock_send fd bytes fds = record (by_open (base_row fd FD_WRITE) (sending bytes [
 abbrev pub receiving : ℕ → Table → ℕ → ℕ → ℕ → OpenMeaning
 receiving p table n room flags = record {
   effect = λ now v o. receive_open p table v n room flags;
+  moves = λ kind. false;
   touched = received_part;
   errors = Badf ∷ Notsock ∷ Again ∷ Mfile ∷ [];
   takes_memory = true;
@@ -160,6 +162,7 @@ sock_recv fd n room flags = record (by_open (base_row fd FD_READ) (receiving 0 e
 abbrev pub shutting : ℕ → OpenMeaning
 shutting how = record {
   effect = λ now v o. shut_open v how;
+  moves = λ kind. false;
   touched = both_parts;
   errors = Badf ∷ Notsock ∷ [];
   takes_memory = false;

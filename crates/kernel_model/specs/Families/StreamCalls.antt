@@ -1,5 +1,5 @@
 -- Calls on opens that bytes are read from and written to, at the place where the last one ended.
-use Rattle.std.specs.Prelude.{ℕ, ◌==◌, ◌&&◌, true, false, List, [], ◌∷◌, ◌++◌, length, take, drop, Option, None, Some, if◌then◌else◌}
+use Rattle.std.specs.Prelude.{ℕ, ◌==◌, ◌&&◌, Bool, true, false, List, [], ◌∷◌, ◌++◌, length, take, drop, Option, None, Some, if◌then◌else◌}
 use Rattle.abi_base.specs.declared.errno.Errno.TheVariants.{Again, Badf, Fbig, Inval, Pipe}
 use Rattle.abi_base.specs.declared.rights.TheConstants.Rights.{FD_READ, FD_SEEK, FD_TELL, FD_WRITE}
 use Rattle.abi_base.specs.declared.flags.TheConstants.{WHENCE_CUR}
@@ -20,6 +20,11 @@ use Rattle.kernel_model.specs.State.{Part, at_node, at_term, set_term}
 use Rattle.kernel_model.specs.View.{View}
 
 -- ---- what such calls may change
+
+-- whether the place where they end moves: it does of a file
+abbrev pub has_offset : Option OpenKind → Bool
+has_offset (Some (File node offset flags)) = true
+has_offset _ = false
 
 -- what is read from by an open, beside a file: a standard stream, or the channel that an end reads
 abbrev pub stream_part : Option OpenKind → List Part
@@ -55,6 +60,7 @@ write_open now v bytes o (Some _) = replies (refused Badf)
 abbrev pub writing : List ℕ → OpenMeaning
 writing bytes = record {
   effect = λ now v. write_open now v bytes;
+  moves = has_offset;
   touched = written_part;
   errors = Badf ∷ Fbig ∷ Again ∷ Pipe ∷ [];
   takes_memory = true;
@@ -85,6 +91,7 @@ read_open v n o (Some _) = replies (refused Badf)
 abbrev pub reading : ℕ → OpenMeaning
 reading n = record {
   effect = λ now v. read_open v n;
+  moves = has_offset;
   touched = stream_part;
   errors = Badf ∷ Again ∷ [];
   takes_memory = true;
@@ -104,6 +111,7 @@ seek_open v bits whence o (Some kind) = with_offset o (seek_open_file v.branch b
 abbrev pub seeking : ℕ → ℕ → OpenMeaning
 seeking bits whence = record {
   effect = λ now v. seek_open v bits whence;
+  moves = has_offset;
   touched = λ kind. [];
   errors = Badf ∷ Inval ∷ [];
   takes_memory = false;

@@ -13,8 +13,8 @@ use Rattle.shared_history.specs.declared.entries.EntryHead.{EntryHead}
 use Rattle.kernel_cell.proofs.RecordedSteps.{kernel_early, log_short, constants_early, covers, few_there, call_runs_there, other_there, number_there, call_fits, call_recorded, call_came, no_child, place_for}
 use Rattle.kernel_cell.proofs.locked.Locked.call.Goals as goal
 
-pub next_thread-next-requires : goal.next_thread-next-requires
-next_thread-next-requires g c = record { few = few_there c.requires.recorded c.args.pid }
+pub number_for-next-requires : goal.number_for-next-requires
+number_for-next-requires g c = record { few = few_there c.requires.recorded c.args.pid }
 
 pub make_room-requires : goal.make_room-requires
 make_room-requires g c =
@@ -44,13 +44,13 @@ answer-requires-clause-encoded g c =
 
 pub answer-requires-clause-other : goal.answer-requires-clause-other
 answer-requires-clause-other g c =
-    other_there c.requires.recorded c.requires.asks c.next_thread-next.result c.in-Ok-make_room.room.thread c.next_thread-next.ensures
-    c.in-Ok-make_room.ensures.number
+    other_there c.requires.recorded c.requires.asks c.number_for-next.result c.in-Ok-make_room.room.thread c.make_room.new.self.regs
+    c.number_for-next.ensures c.in-Ok-make_room.ensures.room.thread c.in-Ok-make_room.ensures.number
 
 pub answer-requires-clause-number : goal.answer-requires-clause-number
 answer-requires-clause-number g c =
-    number_there c.requires.recorded c.requires.asks c.step-answer.result c.step-answer.new.self c.next_thread-next.result c.in-Ok-make_room.room.thread
-    c.step-answer.ensures.step c.next_thread-next.ensures c.in-Ok-make_room.ensures.number
+    number_there c.requires.recorded c.requires.asks c.step-answer.result c.step-answer.new.self c.number_for-next.result c.in-Ok-make_room.room.thread
+    c.step-answer.ensures.step c.number_for-next.ensures c.in-Ok-make_room.ensures.number
 
 pub begin-begun-requires : goal.begin-begun-requires
 begin-begun-requires g c =
@@ -75,7 +75,7 @@ append_call-requires-clause-room g c = log_short c.requires.recorded
 
 pub keep_place-requires : goal.keep_place-requires
 keep_place-requires g c =
-    place_for c.args.call c.step-answer.result c.next_thread-next.result c.args.body.now.threads c.make_place.new.threads c.in-Ok.placed
+    place_for c.args.call c.step-answer.result c.number_for-next.result c.args.body.now.threads c.make_place.new.threads c.in-Ok.placed
     (is_ok c.begin-begun.result) c.live.result c.after_call-after.result c.unless_lost-after.result c.in-Ok.ensures.ok c.after_call-after.ensures
     (c.unless_lost-after.ensures ∙ ap (unless_lost (is_ok c.begin-begun.result)) c.if_live.ensures)
 
@@ -100,7 +100,7 @@ returns-clause-came g c =
     (begun_or_lost c.begin-begun.result self.constants self.kernel (caller self.kernel c.args.pid c.args.tid) c.args.call c.step-answer.result
     c.step-answer.new.self c.args.pid c.args.tid guest c.answer.new.self c.begin-begun.new.self c.requires.plain c.step-answer.ensures.step answered
     c.begin-begun.ensures.ok)
-    c.begin-begun.ensures.only c.unless_lost-after.result c.after_call-after.result c.live.result c.next_thread-next.result c.args.body.now.threads
+    c.begin-begun.ensures.only c.unless_lost-after.result c.after_call-after.result c.live.result c.number_for-next.result c.args.body.now.threads
     c.keep_place.new.threads c.make_place.new.threads c.head-head.new.turns c.in-Ok.placed
-    (c.unless_lost-after.ensures ∙ ap (unless_lost (is_ok c.begin-begun.result)) c.if_live.ensures) c.after_call-after.ensures c.next_thread-next.ensures
+    (c.unless_lost-after.ensures ∙ ap (unless_lost (is_ok c.begin-begun.result)) c.if_live.ensures) c.after_call-after.ensures c.number_for-next.ensures
     c.live.ensures c.head-head.ensures.none c.in-Ok.ensures.ok c.keep_place.ensures

@@ -1,7 +1,7 @@
 use Rattle.std.proofs.Common.{sym, ap, subst, ◌∙◌}
 use Rattle.shared_history.specs.Passes.{IsSeen, Later, Passing, seen_of}
 use Rattle.kernel_cell.specs.Recorded.{IsRecorded}
-use Rattle.kernel_cell.proofs.PassOutcomes.{after_look, live_tells, seen_since}
+use Rattle.kernel_cell.proofs.PassOutcomes.{after_look, seen_since}
 use Rattle.kernel_cell.proofs.locked.Locked.look.Goals as goal
 
 pub hand_out-requires-clause-seen : goal.hand_out-requires-clause-seen
@@ -23,15 +23,10 @@ returns-clause-pass g c =
     let log = c.args.self.now.keeper.log in
     let u : Passing = record { pid = c.pass.inside.pid; seen = seen_of c.pass.inside.badge.views } in
     let later = subst (λ (x : Passing). Later x.pid x.seen log) c.lent.ensures c.take_in.ensures.later in
-    after_look g.J.Naming.launch u c.args.pass.now (record { pid = c.drop.inside.pid; seen = seen_of c.drop.inside.badge.views }) log c.pass.view_is
-    c.requires.recorded.legal c.pass.invariant.seen later
-    (c.drop.view_is ∙ c.hand_out.ensures.pass ∙ ap (λ k. record { pid = u.pid; seen = k.log }) c.take_in.ensures.keeper)
-
-pub returns-clause-live : goal.returns-clause-live
-returns-clause-live g c =
-    live_tells g.J.Naming.launch c.args.self.now.kernel c.args.self.now.keeper.log c.live.result c.pass.inside.pid c.args.pass.now
-    (record { pid = c.drop.inside.pid; seen = seen_of c.drop.inside.badge.views }) c.requires.recorded.state (ap (λ v. v.pid) c.pass.view_is)
-    (ap (λ v. v.seen) (c.drop.view_is ∙ c.hand_out.ensures.pass) ∙ ap (λ k. k.log) c.take_in.ensures.keeper) c.live.ensures
+    after_look g.J.Naming.launch u c.args.pass.now (record { pid = c.drop.inside.pid; seen = seen_of c.drop.inside.badge.views }) log c.args.self.now.kernel
+    c.live.result c.moment.result c.pass.view_is c.requires.recorded.legal c.pass.invariant.seen later
+    (c.drop.view_is ∙ c.hand_out.ensures.pass ∙ ap (λ k. record { pid = u.pid; seen = k.log }) c.take_in.ensures.keeper) c.requires.recorded.state
+    c.live.ensures c.moment.ensures
 
 pub returns-clause-history : goal.returns-clause-history
 returns-clause-history g c = ap (λ k. k.log) c.hand_out.ensures.keeper ∙ ap (λ k. k.log) c.take_in.ensures.keeper

@@ -1,54 +1,70 @@
-use Rattle.std.proofs.Common.{◌≡◌, Some, IsSome, refl, sym, ap, subst, ◌∙◌}
+use Rattle.std.proofs.Common.{◌≡◌, true, None, Some, Option, IfSome, IsSome, refl, sym, subst, ◌∙◌}
 use Rattle.std.specs.FinMap.{get}
+use Rattle.abi_types.specs.declared.call.Call.{Call}
 use Rattle.abi_types.specs.declared.reply.Answer.TheVariants as answer
-use Rattle.abi_types.specs.declared.who.Who.{Who}
-use Rattle.kernel_model.specs.Calls.{refusal}
+use Rattle.kernel_model.specs.Calls.{refusal_of}
+use Rattle.kernel_model.specs.Outcome.{is_parked}
 use Rattle.kernel_model.specs.State.{State, thread_of}
-use Rattle.kernel_model.specs.Step.{tick, IsStep}
+use Rattle.kernel_model.specs.Step.{step_answer, tick}
+use Rattle.kernel_model.specs.Waits.{may_wait, waiting, with_thread}
+use Rattle.kernel_model.specs.Wakes.{LacksNoMemory}
 use Rattle.kernel_core.specs.contracts.kernel.Kernel.{the_view}
-use Rattle.kernel_core.proofs.Asking.{lock_lacks, lock_refused, lock_replies, lock_waits}
+use Rattle.kernel_core.proofs.Asking.{lock_may, lock_parks, lock_refused, lock_replies, lock_waits}
 use Rattle.kernel_core.proofs.kernel.Kernel.lock_poll.Goals as goal
-use Rattle.kernel_core.proofs.kernel.Kernel.lock_poll.Goals.{After-refusal}
+use Rattle.kernel_core.proofs.kernel.Kernel.lock_poll.Goals.{In-Parked}
 
-here : (c : After-refusal) → get c.self.inside.tables c.args.who.now.pid ≡ Some c.in-Some.table.now
-here c = ap (get c.self.inside.tables) (sym (c.from.ensures ∙ ap (λ (w : Who). w.pid) c.who.view_is)) ∙ sym c.in-Some.ensures.value
-
-rows : (c : After-refusal) → refusal c.in-Some.table.now c.args.call.now ≡ c.refusal.result
-rows c = sym c.refusal.ensures
-
-there : (c : After-refusal) → IsSome (thread_of (the_view c.self.inside) c.args.who.now.pid c.args.who.now.tid)
-there c = subst (λ (S : State). IsSome (thread_of S c.args.who.now.pid c.args.who.now.tid)) (sym c.self.view_is) c.requires.there
-
-pub returns-in-Some-refusal-clause-step : goal.returns-in-Some-refusal-clause-step
-returns-in-Some-refusal-clause-step d =
-    let c = (goal.at.returns-in-Some-refusal-clause-step d).After-refusal in
+pub returns-in-Some-clause-exact : goal.returns-in-Some-clause-exact
+returns-in-Some-clause-exact c =
     let S : State = the_view c.self.inside in
-    let reply = d.in-Some-refusal.reply in
-    subst (λ (X : State). IsStep c.args.constants.now X c.args.who.now c.args.call.now (answer.Reply reply) (tick S)) c.self.view_is
-    (lock_refused c.args.constants.now S c.args.who.now c.args.call.now c.in-Some.table.now (here c) reply (rows c ∙ d.in-Some-refusal.is) c.self.invariant.valid)
+    subst (λ (X : State). LacksNoMemory c.args.constants.now X c.args.who.now c.args.call.now (answer.Reply c.in-Some.reply) (tick S)) c.self.view_is
+    (lock_refused c.args.constants.now S c.args.who.now c.args.call.now c.in-Some.reply (sym c.refusal_of.ensures.refusal ∙ c.in-Some.is) c.self.invariant.valid)
 
-pub returns-in_default-copy-clause-step : goal.returns-in_default-copy-clause-step
-returns-in_default-copy-clause-step d =
-    let c = (goal.at.returns-in_default-copy-clause-step d).After-refusal in
+-- a call that asks for its lock, or lets it go and waits
+pub returns-in-Reply-clause-exact : goal.returns-in-Reply-clause-exact
+returns-in-Reply-clause-exact c =
     let S : State = the_view c.self.inside in
-    let given = answer.Reply d.refused-in_default-copy.result in
-    subst (λ (X : State). IsStep c.args.constants.now X c.args.who.now c.args.call.now given (tick S)) c.self.view_is
-    (lock_lacks c.args.constants.now S c.args.who.now c.args.call.now c.in-Some.table.now (here c) c.args.first.now c.requires.begins (rows c ∙ d.in_default-refusal.is)
-    given (tick S) (ap answer.Reply d.refused-in_default-copy.ensures) refl)
+    subst (λ (X : State). LacksNoMemory c.args.constants.now X c.args.who.now c.args.call.now (answer.Reply c.in-Reply.reply) c.ask_lock.new.self) c.self.view_is
+    (lock_replies c.args.constants.now S c.args.who.now c.args.call.now c.args.first.now c.requires.begins (sym c.refusal_of.ensures.refusal ∙ c.in_default.is)
+    c.in-Reply.reply c.ask_lock.new.self c.in-Reply.ensures.done)
 
-pub returns-in-Reply-clause-step : goal.returns-in-Reply-clause-step
-returns-in-Reply-clause-step d =
-    let c = (goal.at.returns-in-Reply-clause-step d).After-refusal in
-    let S : State = the_view c.self.inside in
-    subst (λ (X : State). IsStep c.args.constants.now X c.args.who.now c.args.call.now (answer.Reply d.in-Reply.reply) d.ask_lock.new.self) c.self.view_is
-    (lock_replies c.args.constants.now S c.args.who.now c.args.call.now c.in-Some.table.now (here c) c.args.first.now c.requires.begins (rows c ∙ d.in_default-refusal.is)
-    d.in-Reply.reply d.ask_lock.new.self d.in-Reply.ensures.done)
+-- ---- a call in which its thread waits
 
-pub returns-in-Parked-clause-step : goal.returns-in-Parked-clause-step
-returns-in-Parked-clause-step d =
-    let c = (goal.at.returns-in-Parked-clause-step d).After-refusal in
-    let S : State = the_view c.self.inside in
-    subst (λ (X : State). IsStep c.args.constants.now X c.args.who.now c.args.call.now (answer.Parked d.in-Parked.writes) d.begin_wait.new.self) c.self.view_is
-    (lock_waits c.args.constants.now S c.args.who.now c.args.call.now c.in-Some.table.now (here c) c.args.first.now c.requires.begins (rows c ∙ d.in_default-refusal.is)
-    c.self.invariant.valid (there c) d.in-Parked.writes d.in-Ok.kept d.ask_lock.new.self d.begin_wait.new.self d.in-Ok.ensures d.in-Parked.ensures.done
-    d.in-Parked.ensures.moment d.begin_wait.ensures)
+module _ (d : In-Parked) where
+  abbrev seen : State
+  seen = the_view d.self.inside
+
+  unrefused : refusal_of d.args.call.now (get seen.tables d.args.who.now.pid) ≡ None
+  unrefused = sym d.refusal_of.ensures.refusal ∙ d.in_default.is
+
+  kept_is : d.args.kept.now ≡ Some d.args.call.now
+  kept_is =
+      d.requires.kept
+      (subst (λ (X : State). is_parked (step_answer d.args.constants.now X d.args.who.now d.args.call.now) ≡ true) d.self.view_is
+      (lock_parks d.args.constants.now seen d.args.who.now d.args.call.now d.args.first.now d.requires.begins unrefused d.in-Parked.writes d.ask_lock.new.self
+      d.in-Parked.ensures.done))
+
+  may : may_wait d.args.call.now ≡ true
+  may = lock_may d.args.constants.now seen d.args.who.now d.args.call.now d.args.first.now d.requires.begins unrefused
+
+  waits : (T : State)
+      → T ≡ with_thread d.ask_lock.new.self d.args.who.now.pid d.args.who.now.tid
+      (waiting d.args.constants.now d.args.call.now d.args.who.now d.ask_lock.new.self.clock)
+      → LacksNoMemory d.args.constants.now d.args.self.now d.args.who.now d.args.call.now (answer.Parked d.in-Parked.writes) T
+  waits T after =
+      subst (λ (X : State). LacksNoMemory d.args.constants.now X d.args.who.now d.args.call.now (answer.Parked d.in-Parked.writes) T) d.self.view_is
+      (lock_waits d.args.constants.now seen d.args.who.now d.args.call.now d.args.first.now d.requires.begins unrefused d.self.invariant.valid
+      (subst (λ (X : State). IsSome (thread_of X d.args.who.now.pid d.args.who.now.tid)) (sym d.self.view_is) d.requires.there)
+      d.in-Parked.writes d.args.call.now d.ask_lock.new.self T refl d.in-Parked.ensures.done d.in-Parked.ensures.moment after)
+
+pub wait_in-requires-clause-may : goal.wait_in-requires-clause-may
+wait_in-requires-clause-may c =
+    let d = (goal.at.wait_in-requires-clause-may c).In-Parked in
+    subst (λ (kept : Option Call). IfSome kept (λ call. may_wait call ≡ true)) (sym (kept_is d)) (may d)
+
+pub returns-in-Parked-clause-exact : goal.returns-in-Parked-clause-exact
+returns-in-Parked-clause-exact c =
+    let d = (goal.at.returns-in-Parked-clause-exact c).In-Parked in
+    waits d c.wait_in.new.self
+    (subst (λ (kept : Option Call). IfSome kept (λ call. c.wait_in.new.self
+    ≡ with_thread c.ask_lock.new.self c.args.who.now.pid c.args.who.now.tid (waiting c.args.constants.now call c.args.who.now c.ask_lock.new.self.clock)))
+    (kept_is d) c.wait_in.ensures)

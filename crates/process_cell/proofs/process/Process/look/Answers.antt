@@ -1,4 +1,4 @@
-use Rattle.std.proofs.Common.{sym, subst, true≢false, ◌∙◌}
+use Rattle.std.proofs.Common.{sym, subst}
 use Rattle.process_cell.specs.Process.{Tied}
 use Rattle.process_cell.proofs.Ties.{looked_gone, looked_lives}
 use Rattle.process_cell.proofs.process.Process.look.Goals as goal
@@ -11,10 +11,9 @@ invariant_of-self g c =
       c.self.invariant.0,
       elim c.if-lives.branch [
         | then-lives w ↦ subst (Tied g.J.Naming.launch c.look-lives.new.pass v.body) (sym w.self-is)
-            (looked_lives g.J.Naming.launch c.self.invariant.0 v.pass c.look-lives.new.pass v.body tied c.look-lives.ensures.pass
-            (c.look-lives.ensures.live.0 w.if-lives.true))
+            (looked_lives g.J.Naming.launch c.self.invariant.0 v.pass c.look-lives.new.pass v.body c.look-lives.result.0 c.look-lives.result.1 tied
+            c.look-lives.ensures w.if-lives.true)
         | else-lives w ↦ subst (Tied g.J.Naming.launch c.look-lives.new.pass v.body) (sym w.self-is)
-            (looked_gone g.J.Naming.launch v.pass c.look-lives.new.pass v.body c.look-lives.ensures.pass
-            (λ alive. true≢false (sym (c.look-lives.ensures.live.1 alive) ∙ w.if-lives.false)))
+            (looked_gone g.J.Naming.launch v.pass c.look-lives.new.pass v.body c.look-lives.result.0 c.look-lives.result.1 c.look-lives.ensures w.if-lives.false)
       ],
     )

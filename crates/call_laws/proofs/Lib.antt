@@ -1,0 +1,12 @@
+pub mod Replies
+pub mod Arguments
+pub mod Numbers
+pub mod GivenNumbers
+pub mod Told
+pub mod NewPairs
+pub mod EndedCalls
+pub mod NameChanges
+pub mod Names
+pub mod Moved
+pub mod FilesTold
+pub mod Sizes

@@ -1,0 +1,12 @@
+pub mod Rows
+pub mod Flags
+pub mod DescriptorErrors
+pub mod OffsetErrors
+pub mod FileErrors
+pub mod OwnErrors
+pub mod PathErrors
+pub mod NameErrors
+pub mod NameMoves
+pub mod OpenErrors
+pub mod NamedDescriptors
+pub mod MemoryErrors

@@ -1,0 +1,10 @@
+pub mod Tables
+pub mod DescriptorErrors
+pub mod OffsetErrors
+pub mod FileErrors
+pub mod OwnErrors
+pub mod PathErrors
+pub mod NameErrors
+pub mod OpenErrors
+pub mod NamedDescriptors
+pub mod MemoryErrors

@@ -1,0 +1,10 @@
+pub mod Tables
+pub mod FreeNumbers
+pub mod ThreadErrors
+pub mod ProcessErrors
+pub mod PairErrors
+pub mod Ends
+pub mod ChannelErrors
+pub mod ReceiveErrors
+pub mod PollErrors
+pub mod LockErrors

@@ -1,0 +1,12 @@
+pub mod Outcomes
+pub mod Waits
+pub mod EndReads
+pub mod Receives
+pub mod Sends
+pub mod Shuts
+pub mod Streams
+pub mod Touches
+pub mod StreamParts
+pub mod StreamSteps
+pub mod FileBytes
+pub mod Files
