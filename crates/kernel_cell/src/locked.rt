@@ -122,7 +122,8 @@ impl<J: Naming> Locked<J> {
         came
     }
 
-    // The same, while the keeper holds the process. The room for the entry is taken before.
+    // The same, while the keeper holds the process. The room for the entry is taken before. What is asked for is dropped by name where nothing comes
+    // of it, as below: what a scope's end drops is proved at each return.
     fn enter(
         &mut self,
         passes: &Passes<J>,
@@ -139,9 +140,11 @@ impl<J: Naming> Locked<J> {
         ensures came { IsActedOn J.launch self.old.keeper.log pid tid body.old what body.new self.new.keeper.log result }
     {
         if !self.kernel.live(pid) {
+            drop(what);
             return Came::Gone;
         }
         let Ok(()) = self.kept.reserve() else {
+            drop(what);
             return Came::NoMemory;
         };
         match what {
@@ -189,10 +192,12 @@ impl<J: Naming> Locked<J> {
     {
         let next = number_for(&self.kernel, pid, &call);
         let Ok(placed) = make_place(&mut body.threads, &call, next) else {
+            drop(call);
             return Came::NoMemory;
         };
         let Ok(room) = body.guest.make_room(self.alloc, &call, next) else {
             leave_place(&mut body.threads, next, placed);
+            drop(call);
             return Came::NoMemory;
         };
         let answer = self.kernel.step(&self.constants, pid, tid, &call);
@@ -304,12 +309,15 @@ impl<J: Naming> Locked<J> {
         ensures forked { IsForkedOn J.launch self.old.keeper.log pid tid body.old call body.new self.new.keeper.log result }
     {
         if !self.kernel.live(pid) {
+            drop(call);
             return Came::Gone;
         }
         let Ok(()) = self.kept.reserve() else {
+            drop(call);
             return Came::NoMemory;
         };
         let Ok(begun) = child_guest(&self.kernel, self.alloc, pid, tid, &mut body.guest) else {
+            drop(call);
             return Came::NoMemory;
         };
         let answer = self.kernel.step(&self.constants, pid, tid, &call);

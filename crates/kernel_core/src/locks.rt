@@ -138,6 +138,8 @@ impl Kernel {
             };
         };
         let mut kept = Some(copy);
-        self.lock_poll(constants, who, call, first, &mut kept)
+        let answer = self.lock_poll(constants, who, call, first, &mut kept);
+        drop(kept);
+        answer
     }
 }

@@ -192,10 +192,12 @@ impl Kernel {
         ensures valid { IsValid self.old }
     {
         let mut kept = ahead;
-        match lock_subscription(call) {
+        let answer = match lock_subscription(call) {
             Some(first) => self.lock_poll(constants, who, call, first, &mut kept),
             None => self.run(constants, who, call),
-        }
+        };
+        drop(kept);
+        answer
     }
 
     /// The wake of a thread in a run with these constants, if it is ready. It runs then, and the call that it waited in is done: with it comes its
@@ -238,6 +240,7 @@ impl Kernel {
                     return Woken::NoMemory;
                 };
                 let Some((mut call, since, stage)) = self.resume(pid, tid) else {
+                    drop(ahead);
                     return Woken::NotReady;
                 };
                 let who = Who {
