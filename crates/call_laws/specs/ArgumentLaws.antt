@@ -60,37 +60,16 @@ names_of (call.SockSend fd bytes fds flags) = fd ∷ fds
 names_of (call.SockShutdown fd how) = fd ∷ []
 names_of other = []
 
--- those of which a right is needed, in the same order: each once, or once for each of its places in the arguments
+-- Of each of them a right is needed, but of those that are closed, copied or looked at alone, of those that a new program lists, and of those that
+-- are sent.
 abbrev pub needs_of : Call → List ℕ
-needs_of (call.FdDatasync fd) = fd ∷ []
-needs_of (call.FdPread fd length offset) = fd ∷ []
-needs_of (call.FdPwrite fd bytes offset) = fd ∷ []
-needs_of (call.FdRead fd length) = fd ∷ []
-needs_of (call.FdSeek fd offset whence) = fd ∷ []
-needs_of (call.FdStatPut fd stat flags) = fd ∷ []
-needs_of (call.FdSync fd) = fd ∷ []
-needs_of (call.FdWrite fd bytes) = fd ∷ []
-needs_of (call.FileAdvise fd offset length advice) = fd ∷ []
-needs_of (call.FileAllocate fd offset length) = fd ∷ []
-needs_of (call.FileCreate fd path kind) = fd ∷ []
-needs_of (call.FileLink lookup path new_fd new_path) = lookup.fd ∷ new_fd ∷ []
-needs_of (call.FileOpen lookup path oflags stat) = lookup.fd ∷ []
-needs_of (call.FileReaddir fd length cookie) = fd ∷ []
-needs_of (call.FileReadlink fd path length) = fd ∷ []
-needs_of (call.FileRename fd path new_fd new_path) = fd ∷ new_fd ∷ []
-needs_of (call.FileStatFget fd) = fd ∷ []
-needs_of (call.FileStatFput fd stat flags) = fd ∷ []
-needs_of (call.FileStatGet lookup path) = lookup.fd ∷ []
-needs_of (call.FileStatPut lookup path stat flags) = lookup.fd ∷ []
-needs_of (call.FileSymlink text fd path) = fd ∷ []
-needs_of (call.FileUnlink fd path flags) = fd ∷ []
-needs_of (call.MemMap place length prot flags fd offset) = mapped_fds flags fd
-needs_of (call.Poll subscriptions) = awaited_fds subscriptions
+needs_of (call.FdClose fd) = []
+needs_of (call.FdDup fd) = []
+needs_of (call.FdReplace from to) = []
+needs_of (call.FdStatGet fd) = []
 needs_of (call.ProcExec fd bytes fds) = fd ∷ []
-needs_of (call.SockRecv fd length room flags) = fd ∷ []
 needs_of (call.SockSend fd bytes fds flags) = fd ∷ []
-needs_of (call.SockShutdown fd how) = fd ∷ []
-needs_of other = []
+needs_of other = names_of other
 
 -- A call names the descriptors of its arguments, each and in their order. The rights that it needs of one of them stand in one row, and
 -- the rows in the order of the arguments. So the first descriptor that lacks a right is the first of the arguments, and what it lacks is

@@ -8,5 +8,4 @@ pub mod PathErrors
 pub mod NameErrors
 pub mod NameMoves
 pub mod OpenErrors
-pub mod NamedDescriptors
 pub mod MemoryErrors

@@ -6,5 +6,4 @@ pub mod OwnErrors
 pub mod PathErrors
 pub mod NameErrors
 pub mod OpenErrors
-pub mod NamedDescriptors
 pub mod MemoryErrors

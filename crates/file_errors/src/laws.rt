@@ -3,16 +3,10 @@ ghost use Rattle.file_errors.specs.DescriptorErrors.{DescriptorErrorsAreListed};
 ghost use Rattle.file_errors.specs.FileErrors.{FileErrorsAreListed};
 ghost use Rattle.file_errors.specs.MemoryErrors.{AllMemoryErrorsAreListed};
 ghost use Rattle.file_errors.specs.NameErrors.{NameErrorsAreListed};
-ghost use Rattle.file_errors.specs.NamedDescriptors.{NamedAreArguments};
 ghost use Rattle.file_errors.specs.OffsetErrors.{OffsetErrorsAreListed};
 ghost use Rattle.file_errors.specs.OpenErrors.{OpenErrorsAreListed};
 ghost use Rattle.file_errors.specs.OwnErrors.{OwnErrorsAreListed};
 ghost use Rattle.file_errors.specs.PathErrors.{PathErrorsAreListed};
-
-/// The descriptors that a call names, of which each must be there, are those among its arguments, of each of the 49 calls.
-pub fn named_are_arguments()
-    ensures { NamedAreArguments }
-{}
 
 /// The calls on descriptors themselves, and those that change nothing: `fd_close`, `fd_datasync`, `fd_dup`, `fd_replace`,
 /// `fd_stat_get`, `fd_stat_put`, `fd_sync` and `file_advise`.

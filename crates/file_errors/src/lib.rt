@@ -7,6 +7,6 @@ mod laws;
 
 pub use laws::{
     descriptor_errors_are_listed, file_errors_are_listed, memory_errors_are_listed,
-    name_errors_are_listed, named_are_arguments, offset_errors_are_listed, open_errors_are_listed,
+    name_errors_are_listed, offset_errors_are_listed, open_errors_are_listed,
     own_errors_are_listed, path_errors_are_listed,
 };
