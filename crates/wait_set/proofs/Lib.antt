@@ -1,0 +1,10 @@
+pub mod Ascending
+pub mod Between
+pub mod Moments
+pub mod Packed
+pub mod Queueing
+pub mod Settled
+pub mod Spotting
+pub mod Thick
+pub mod Tying
+pub mod Walking

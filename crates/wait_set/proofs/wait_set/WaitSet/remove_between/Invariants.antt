@@ -1,0 +1,9 @@
+use Rattle.std.proofs.Common.{◌-◌, ◌≤◌, None}
+use Rattle.wait_set.proofs.Between.{Between}
+use Rattle.wait_set.proofs.wait_set.WaitSet.remove_between.Given as goal
+
+abbrev pub invariant-loop-thread : goal.invariant-loop-thread
+invariant-loop-thread l = record { walked : Between (λ _. None) l.first l.end l.from l.fn.self l.self; start : l.first ≤ l.from }
+
+abbrev pub decreases-loop-thread : goal.decreases-loop-thread
+decreases-loop-thread l = l.end - l.from

@@ -1,0 +1,101 @@
+//! The threads that stand at each number.
+ghost use Rattle.std.specs.Prelude.{◌≡◌, ◌+◌, ◌&&◌, ◌||◌, ℕ, Bool, not, nat_eq, OnOk, OnErr};
+ghost use Rattle.std.specs.FinMap as map;
+ghost use Rattle.wait_set.specs.Next.{IsNext};
+ghost use Rattle.wait_set.specs.Queued.{has_at, NoneEmpty};
+
+use maps::NumMap;
+use std::alloc::{AllocError, Global};
+use std::marker::Model;
+
+/// The threads that stand at each number. A number at which nobody stands has no queue.
+///
+/// Each change, and each look for the next thread or number, takes the logarithm of how many numbers and how many threads at
+/// the number there are.
+#[derive(Drop)]
+pub struct Queues {
+    alloc: Global,
+    by_number: NumMap<NumMap<()>>,
+}
+
+impl Model for Queues {
+    ghost use Rattle.std.specs.FinMap as map;
+    ghost use Rattle.std.specs.FinSet as set;
+    ghost use Rattle.std.specs.Coded.{coded_ℕ};
+    ghost use Rattle.wait_set.specs.Queued.{QueueMap, NoneEmpty};
+
+    ghost Value = { QueueMap };
+
+    ghost coded = { map.code coded_ℕ (set.code coded_ℕ) };
+
+    ghost view = { λ a. a.by_number };
+
+    ghost invariant = { λ a. NoneEmpty a.by_number };
+}
+
+impl Queues {
+    /// Nobody stands anywhere. Takes no memory.
+    pub fn new(alloc: Global) -> Self
+        ensures { result ≡ map.empty }
+    {
+        Queues {
+            alloc,
+            by_number: NumMap::new(alloc),
+        }
+    }
+
+    /// The thread stands at the number from here on. `Err` where memory ran out: then it stands where it stood.
+    pub fn stand(&mut self, number: u64, thread: u64) -> Result<(), AllocError>
+        ensures ok { OnOk result ((n t : ℕ) → has_at self.new n t ≡ (has_at self.old n t || (nat_eq n number && nat_eq t thread))) }
+        ensures err { OnErr result (self.new ≡ self.old) }
+    {
+        if self.by_number.contains(number) {
+            self.by_number.get_mut(number).insert(thread, ())?;
+            return Ok(());
+        }
+        let mut queue = NumMap::new(self.alloc);
+        queue.insert(thread, ())?;
+        self.by_number.insert(number, queue)?;
+        Ok(())
+    }
+
+    /// The thread no longer stands at the number. A queue that gets empty is dropped.
+    pub fn leave(&mut self, number: u64, thread: u64)
+        ensures { (n t : ℕ) → has_at self.new n t ≡ (has_at self.old n t && not (nat_eq n number && nat_eq t thread)) }
+    {
+        if !self.by_number.contains(number) {
+            return;
+        }
+        let queue = self.by_number.get_mut(number);
+        queue.remove(thread);
+        if queue.is_empty() {
+            self.by_number.remove(number);
+        }
+    }
+
+    /// The next thread after `after` that stands at the number.
+    pub fn next(&self, number: u64, after: Option<u64>) -> Option<u64>
+        ensures { IsNext (λ t. has_at self.now number t) after result }
+    {
+        let queue = self.by_number.get(number)?;
+        next_key(queue, after)
+    }
+
+    /// The next number after `after` at which somebody stands.
+    pub fn next_number(&self, after: Option<u64>) -> Option<u64>
+        ensures next { IsNext (λ n. map.contains_key self.now n) after result }
+        ensures some { NoneEmpty self.now }
+    {
+        next_key(&self.by_number, after)
+    }
+}
+
+// The least key after `after`, or of all where that is `None`.
+fn next_key<V>(entries: &NumMap<V>, after: Option<u64>) -> Option<u64>
+    ensures { IsNext (λ q. map.contains_key entries.now q) after result }
+{
+    match after {
+        None => entries.first_from(0),
+        Some(key) => entries.first_after(key),
+    }
+}
