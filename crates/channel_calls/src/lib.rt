@@ -1,5 +1,4 @@
-//! The kernel's channels: what calls on their ends send, receive and shut, what is made with a pair of ends and ends with one, and which
-//! threads wait on a channel, or for the end of a process.
+//! The kernel's channels: what calls on their ends send, receive and shut, and what is made with a pair of ends and ends with one.
 //!
 //! [`Channels`] has them by number, and contracts see a finite map. `specs/Calls.antt` says what a call leaves of it, of a process's
 //! descriptors, and of the counts of what is held: each descriptor that waits in a channel holds its open.
@@ -9,9 +8,7 @@ pub use calls::{on_end, on_socket};
 pub use kept::Channels;
 pub use leaving::leave;
 pub use pairs::{Pair, PairKind, put_pair};
-pub use waiters::{Spot, ThreadOf};
 pub use waits::{end_waits, socket_waits, waited_on};
-pub use wakes::Wakes;
 
 mod calls;
 mod installing;
@@ -22,6 +19,4 @@ mod pairs;
 mod receiving;
 mod sending;
 mod shutting;
-mod waiters;
 mod waits;
-mod wakes;

@@ -17,7 +17,7 @@ one_at_most true = omega arith
 one_at_most false = omega arith
 
 module _ {X : Type 0} where
-  unchanged : (f : X → X) (o : Option X) → option_map (λ x. if false then f x else x) o ≡ o
+  pub unchanged : (f : X → X) (o : Option X) → option_map (λ x. if false then f x else x) o ≡ o
   unchanged f None = refl
   unchanged f (Some x) = refl
 

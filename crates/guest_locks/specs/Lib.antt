@@ -2,3 +2,4 @@ pub mod Words
 pub mod Queues
 pub mod Handing
 pub mod Signals
+pub mod Told

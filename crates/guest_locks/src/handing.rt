@@ -4,6 +4,7 @@ ghost use Rattle.std.specs.FinMap as map;
 ghost use Rattle.kernel_model.specs.Families.Locks as model;
 ghost use Rattle.guest_locks.specs.Handing.{given_at, given_next, reads_before};
 ghost use Rattle.guest_locks.specs.Queues.{AreFew};
+ghost use Rattle.guest_locks.specs.Told.{TellsOf};
 
 use crate::queues::{earliest_in, front, some_waits};
 use crate::stages::is_late;
@@ -27,7 +28,8 @@ fn give(thread: &mut Thread)
 // The lock is given to the thread of this number.
 fn give_to(threads: &mut NumMap<Thread>, tid: u64, told: &mut Told)
     requires there { IsSome (map.get threads.old tid) }
-    ensures { threads.new ≡ given_at tid threads.old }
+    ensures threads { threads.new ≡ given_at tid threads.old }
+    ensures told { TellsOf threads.old threads.new told.old told.new }
 {
     give(threads.get_mut(tid));
     told.add(tid);
@@ -53,6 +55,7 @@ fn give_readers(threads: &mut NumMap<Thread>, lock: u64, told: &mut Told) -> u32
     ensures threads { threads.new ≡ given_next lock threads.old }
     ensures count { result ≡ model.count_next lock threads.old }
     ensures few { result < 2 ^ 30 }
+    ensures told { TellsOf threads.old threads.new told.old told.new }
 {
     let limit = earliest_in(threads, Queue::Writers(lock));
     let mut count = 0;
@@ -80,6 +83,7 @@ fn hand_to(threads: &mut NumMap<Thread>, lock: u64, first: u64, told: &mut Told)
     ensures threads { threads.new ≡ model.handed lock threads.old }
     ensures word { result ≡ model.low_word (model.next_of lock threads.old) lock threads.old }
     ensures low { result < 2 ^ 31 }
+    ensures told { TellsOf threads.old threads.new told.old told.new }
 {
     if is_reader_at(threads, first) {
         return give_readers(threads, lock, told);
@@ -94,6 +98,7 @@ pub fn hand_on(threads: &mut NumMap<Thread>, lock: u64, told: &mut Told) -> u32
     requires few { AreFew threads.old }
     ensures threads { threads.new ≡ model.handed lock threads.old }
     ensures word { result ≡ model.handed_word lock threads.old }
+    ensures told { TellsOf threads.old threads.new told.old told.new }
 {
     let Some(first) = front(threads, lock) else {
         return 0;
@@ -118,6 +123,7 @@ pub fn unlock(
     requires few { AreFew threads.old }
     ensures threads { threads.new ≡ model.released_threads (model.release_of tid word) lock threads.old }
     ensures word { result ≡ model.released_word (model.release_of tid word) lock threads.old }
+    ensures told { TellsOf threads.old threads.new told.old told.new }
 {
     match release_of(tid, word) {
         Release::Refuses => None,

@@ -4,6 +4,7 @@ ghost use Rattle.std.specs.FinMap as map;
 ghost use Rattle.kernel_model.specs.Families.Locks as model;
 ghost use Rattle.guest_locks.specs.Queues.{AreFew};
 ghost use Rattle.guest_locks.specs.Signals.{next_sleeper};
+ghost use Rattle.guest_locks.specs.Told.{TellsOf};
 
 use crate::queues::{first_in, some_sleeps};
 use crate::told::Told;
@@ -23,7 +24,8 @@ fn call(thread: &mut Thread)
 // The thread of this number is signalled.
 fn call_at(threads: &mut NumMap<Thread>, tid: u64, told: &mut Told)
     requires there { IsSome (map.get threads.old tid) }
-    ensures { threads.new ≡ model.with_called (Some tid) threads.old }
+    ensures threads { threads.new ≡ model.with_called (Some tid) threads.old }
+    ensures told { TellsOf threads.old threads.new told.old told.new }
 {
     call(threads.get_mut(tid));
     told.add(tid);
@@ -46,6 +48,7 @@ pub fn signal(threads: &mut NumMap<Thread>, condvar: u64, n: u32, told: &mut Tol
     requires few { AreFew threads.old }
     ensures threads { threads.new ≡ model.signalled n condvar threads.old }
     ensures word { result ≡ model.signalled_word n condvar threads.old }
+    ensures told { TellsOf threads.old threads.new told.old told.new }
 {
     let mut left = n;
     while let Some(tid) = next_sleeper(threads, condvar, left) {

@@ -258,14 +258,13 @@ pub seen_since : (launch : Launch) (v : Passing) (log : List Entry) → Legal la
 seen_since launch v log legal was later = record { legal = legal; made = made_since launch v.pid v.seen log legal later was.made }
 
 -- the kernel's state is that of the history that is seen then
-pub after_look : (launch : Launch) (u v w : Passing) (log : List Entry) (kernel : State) (lives : Bool) (moment : ℕ) → u ≡ v → Legal launch log
+pub after_look : (launch : Launch) (u v w : Passing) (log : List Entry) (kernel : State) (lives : Bool) → u ≡ v → Legal launch log
     → IsSeen launch u.pid u.seen → Later u.pid u.seen log → w ≡ record { pid = u.pid; seen = log } → kernel ≡ (world launch log).state
-    → (IsTrue lives ↔ (get kernel.statuses u.pid ≡ Some Live)) → moment ≡ kernel.clock → Looked launch v w lives moment
-after_look launch u v w log kernel lives moment same legal was later is state tells now =
-    subst (λ (x : Passing × Passing). Looked launch x.0 x.1 lives moment) (λ i. (same i, sym is i)) (record {
+    → (IsTrue lives ↔ (get kernel.statuses u.pid ≡ Some Live)) → Looked launch v w lives
+after_look launch u v w log kernel lives same legal was later is state tells =
+    subst (λ (x : Passing × Passing). Looked launch x.0 x.1 lives) (λ i. (same i, sym is i)) (record {
       pid = refl;
       seen = seen_since launch u log legal was later;
       later = later;
       live = subst (λ (S : State). IsTrue lives ↔ (get S.statuses u.pid ≡ Some Live)) state tells;
-      moment_is = now ∙ ap (λ (S : State). S.clock) state;
     })

@@ -1,13 +1,13 @@
 -- What stands behind the lock as an entry is added, read off the kernel, the keeper and what is kept.
 --     kernel_early, log_short, constants_early, live_there, dead_there, few_there      the bounds, and who is live
---     covers, tells_there, told_there      the process that the keeper holds, and the times that are told with an answer
+--     covers      the process that the keeper holds
 --     recorded_same      what stands there where no entry came
 --     entered_on, fits_entry, recorded_entry      an entry of any act
 --     call_runs_there, other_there, number_there, call_fits, call_recorded, call_came      a call
 --     no_child, place_for      a call that makes no child, and the place of a thread that it made
 --     wake_can, wake_few, same_given, wake_fits, wake_recorded, wake_came, wake_not, wake_none      a wake
 --     end_fits, end_recorded, end_came      an end from outside
---     fits_jump, recorded_jump, appends_jump, busy_there, stalled_there      an idle jump
+--     fits_jump, recorded_jump, appends_jump, busy_there, over_there, stalled_there      an idle jump
 use Rattle.std.proofs.Common.{◌≡◌, ◌≢◌, inl, inr, ◌+◌, ◌-◌, ◌^◌, ◌<◌, ◌≤◌, ℕ, Bool, true, false, List, [], ◌∷◌, ◌++◌, length, Contains, Option, None, Some, IsSome, IsTrue, ◌↔◌, refl, sym, ap, subst, ◌∙◌, arith}
 use Rattle.std.specs.Prelude.{Result, Ok, Err, OnErr, OnOk, is_ok}
 use Rattle.std.proofs.lemmas.Bool.Decides.{eqb_tells}
@@ -36,14 +36,14 @@ use Rattle.call_codec.specs.Arguments.{args_of}
 use Rattle.call_codec.specs.Given.{given_of, CanWait}
 use Rattle.call_codec.specs.Put.{HasFewRanges}
 use Rattle.call_codec.proofs.Puts.{few_ranges}
-use Rattle.kernel_core.specs.Waiting.{caller, kept_call, waiter, waits_until}
+use Rattle.kernel_core.specs.Waiting.{caller, kept_call, waiter}
 use Rattle.kernel_model.specs.Deadlines.{idle_state}
 use Rattle.kernel_model.specs.Outcome.{is_parked}
 use Rattle.kernel_model.specs.State.{ProcessState, State, counts_in, thread_of}
 use Rattle.kernel_model.specs.Step.{IsStep, end_state}
 use Rattle.kernel_model.specs.Threads.{child_told, ends_caller, ends_others, first_result, makes_thread, next_number, IsMoved}
 use Rattle.kernel_model.specs.Valid.{IsValid}
-use Rattle.kernel_model.specs.Waits.{WaitsIn}
+use Rattle.kernel_model.specs.Waits.{HasDeadlines, WaitsIn}
 use Rattle.kernel_model.specs.Wakes.{is_ready, is_ready_as, IsStalled, IsWake as IsWoken, MayJump}
 use Rattle.kernel_model.proofs.Tests.{not_true}
 use Rattle.kernel_model.proofs.ThreadLaws.{create_number}
@@ -60,14 +60,14 @@ use Rattle.run_model.proofs.ThreadRegisters.{parked_makes}
 use Rattle.run_model.proofs.Waited.{parked_is}
 use Rattle.run_model.proofs.Words.{few_of_call}
 use Rattle.run_model.proofs.WaitingRegisters.{may_can, waits_are_encoded, whole_keeps}
-use Rattle.run_model.proofs.Worlds.{world_is_valid}
+use Rattle.run_model.proofs.Worlds.{world_has_deadlines, world_is_valid}
 use Rattle.shared_history.specs.Entries.{head_of, entry_of, answered_call, idled}
 use Rattle.shared_history.specs.Kept.{Takes}
 use Rattle.shared_history.specs.declared.entries.EntryHead.{EntryHead}
 use Rattle.shared_history.specs.declared.kept.Kept.{Kept}
-use Rattle.kernel_cell.specs.Acting.{AreIn, AreTimes, AreTold, Became, Entered, GoesOn, HasEnded, HasLeft, HasStarted, IsAlone, IsDead, IsActedOn, IsIdledOn, IsTimed, KeepsBut, MayCome, TellsTimes, WaitsOn, stays}
+use Rattle.kernel_cell.specs.Acting.{Became, Entered, GoesOn, HasEnded, HasLeft, HasStarted, IsAlone, IsDead, IsActedOn, IsIdledOn, KeepsBut, MayCome, WaitsOn}
 use Rattle.kernel_cell.specs.Afterwards.{Threads, act_of, after_call, after_wake, end_of, if_live, status_of, unless_lost, with_made, without_place, HasPlace, IsPlaceFor}
-use Rattle.kernel_cell.specs.Asking.{Answers, AsksCall, AsksEnd, AsksWake, HasNoChild, keeps_worker}
+use Rattle.kernel_cell.specs.Asking.{Answers, AsksCall, AsksEnd, AsksWake, HasNoChild}
 use Rattle.kernel_cell.specs.Recorded.{IsRecorded}
 use Rattle.kernel_cell.specs.declared.results.After.{After}
 use Rattle.kernel_cell.specs.declared.results.After.TheVariants as to
@@ -78,7 +78,6 @@ use Rattle.kernel_cell.specs.declared.results.Came.{Came}
 use Rattle.kernel_cell.specs.declared.results.Came.TheVariants as came
 use Rattle.kernel_cell.specs.declared.results.EndBy.{EndBy}
 use Rattle.kernel_cell.specs.declared.results.Idled.TheVariants as idle
-use Rattle.kernel_cell.specs.declared.results.Times.{Times}
 use Rattle.kernel_cell.proofs.EntryEffects.{recorded_next, entry_state, entry_fits, entry_dead, entry_goes, entry_has, entry_keeps, entry_left, entry_starts, entry_waits, call_runnable, call_leaves, call_answered, call_set, call_runs, call_waits, call_left, call_keeps, call_alone, call_makes, kept_waits, moved_same, waits_may, wake_leaves, wake_answered, wake_runs, wake_stays, wake_waits, end_leaves, end_answered, end_dead}
 
 -- a thread of which no call is kept isn't ready
@@ -86,11 +85,6 @@ none_ready : (constants : Constants) (S : State) (p t : ℕ) (o : Option Thread)
 none_ready constants S p t None none = refl
 none_ready constants S p t (Some Runnable) none = refl
 none_ready constants S p t (Some (Waits call since until stage)) none = absurd (cc)
-
--- a thread that keeps its worker goes on
-goes_on_there : (may : Bool) (result : Came After) → stays may result ≡ true → (may ≡ true) × (result ≡ came.Done to.Runs)
-goes_on_there may (came.Done to.Runs) stay = (stay, refl)
-goes_on_there may _ stay = absurd (not_true stay)
 
 -- what a thread is given is given for the call that is kept of it
 pub same_given : (guest : Guest) (t : ℕ) (seen call : Call) (o : Option Call) (given : WakeIn) → Some seen ≡ o → Some call ≡ o
@@ -208,27 +202,11 @@ module _ {launch : Launch} {all : Bool} {log : List Entry} {before : State} {con
   pub valid_there : IsValid w.state
   valid_there = world_is_valid launch log r.bounded.begins r.legal
 
-  -- the times that are told with an answer
-  pub times_there : (p q t : ℕ) (h : List Entry) (told : Option Times) → AreIn before p t told → h ≡ log → p ≡ q → AreTold launch h q t told
-  times_there p q t h None here seen same = here
-  times_there p q t h (Some times) here seen same =
-      subst (λ (x : List Entry × ℕ). AreTimes launch x.0 x.1 t times) (λ i. (sym seen i, same i)) (record {
-        moment = here.0 ∙ ap (λ (S : State). S.clock) r.state;
-        until = here.1 ∙ ap (λ (S : State). waits_until (thread_of S p t)) r.state;
-      })
-
-  pub tells_there : (p q t : ℕ) (h : List Entry) (what : Asked) (result : Came After) (may stay : Bool) (told told' : Option Times)
-      → IsTimed before p t stay told told' → may ≡ keeps_worker what → stay ≡ stays may result → h ≡ log → p ≡ q
-      → TellsTimes launch h q t what result told told'
-  tells_there p q t h what result may stay told told' (inl here) keeps is seen same = inl (times_there p q t h told' here seen same)
-  tells_there p q t h what result may stay told told' (inr none) keeps is seen same =
-      let goes = goes_on_there may result (sym is ∙ none.1) in
-      inr (none.0, sym keeps ∙ goes.0, goes.1)
-
-  -- they are told where the thread doesn't keep its worker
-  pub told_there : (p q t : ℕ) (h : List Entry) (told told' : Option Times) → IsTimed before p t false told told' → h ≡ log → p ≡ q → AreTold launch h q t told'
-  told_there p q t h told told' (inl here) seen same = times_there p q t h told' here seen same
-  told_there p q t h told told' (inr none) seen same = absurd (not_true none.1)
+  -- each thread that waits does until its call's deadline
+  pub deadlines_there : HasDeadlines constants before
+  deadlines_there =
+      subst (λ (x : Constants × State). HasDeadlines x.0 x.1) (λ i. (sym r.constants_are i, sym r.state i))
+      (subst (λ (c : Constants). HasDeadlines c w.state) (world_constants launch log) (world_has_deadlines launch log r.bounded.begins r.legal))
 
   -- the number of a process's next thread
   pub few_there : (p : ℕ) → next_number before p < 2 ^ 32
@@ -644,6 +622,9 @@ module _ {launch : Launch} {all : Bool} {log : List Entry} {before : State} {con
     where
       stalled_world : IsStalled launch.constants w.state → Stalled launch log
       stalled_world here = subst (λ (c : Constants). IsStalled c w.state) (sym (world_constants launch log)) here
+
+  pub over_there : (after : List Entry) → after ≡ log → ¬ ((p : ℕ) × (get before.statuses p ≡ Some Live)) → IsIdledOn launch log after idle.Over
+  over_there after same none = (same, there (λ c S. (p : ℕ) → ¬ (get S.statuses p ≡ Some Live)) (λ p live. none (p, live)))
 
   pub busy_there : (after : List Entry) → after ≡ log → ¬ MayJump constants before → ¬ IsStalled constants before → IsIdledOn launch log after idle.Busy
   busy_there after same still goes = (

@@ -37,6 +37,7 @@ use Rattle.abi_types.proofs.status.Status.TheSendSync as statuses
 use Rattle.abi_types.proofs.constants.Constants.TheSendSync as constants
 use Rattle.object_store.proofs.objects.Objects.TheSendSync as objects
 use Rattle.channel_calls.proofs.kept.Channels.TheSendSync as channels
+use Rattle.wait_set.proofs.wait_set.WaitSet.TheSendSync as waits
 use Rattle.run_types.specs.contracts.launch.Launch as launch
 use Rattle.elf_image.proofs.elf.Elf.TheSendSync as elf
 use Rattle.lists.proofs.bytes.Bytes.TheSendSync as bytes
@@ -140,7 +141,7 @@ kernel_send = view_send _ _ _ _ _ (declared_send kernel_inside.the_type (
           objects.the_send,
           (
             tree_send,
-            (num_map.the_send terminal.the_row terminals.the_send, (channels.the_send, (heap.the_send, tt))),
+            (num_map.the_send terminal.the_row terminals.the_send, (channels.the_send, (waits.the_send, (heap.the_send, tt)))),
           ),
         ),
       ),

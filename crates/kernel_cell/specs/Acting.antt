@@ -5,7 +5,6 @@
 --     IsActedOn, IsForkedOn, IsIdledOn      what comes of a call, a wake or an end, of a proc_fork, and of time, by the whole history
 --     Seen, IsActed, IsForked      the same by what a pass has seen of it
 --     Looked      a look
---     AreTimes, AreTold, TellsTimes, stays, AreIn, IsTimed      the times that are told with an answer
 use Rattle.std.specs.Prelude.{◌≡◌, ◌≢◌, ◌↔◌, ◌⊎◌, ℕ, Bool, true, false, List, [], ◌∷◌, ◌++◌, Option, None, Some, IsTrue}
 use Rattle.abi_types.specs.declared.call.Call.{Call}
 use Rattle.run_types.specs.declared.history.Act.{Act}
@@ -22,7 +21,7 @@ use Rattle.run_model.specs.Own.{own, IsLiveIn}
 use Rattle.run_model.specs.World.{Guest, world, guest_of}
 use Rattle.shared_history.specs.Entries.{head_of, entry_of, idled}
 use Rattle.shared_history.specs.Passes.{Passing, IsSeen, Later}
-use Rattle.kernel_cell.specs.Asking.{Answers, IsWake, Waiting, keeps_worker}
+use Rattle.kernel_cell.specs.Asking.{Answers, IsWake, Waiting}
 use Rattle.kernel_cell.specs.Afterwards.{with_made}
 use Rattle.kernel_cell.specs.declared.results.After.{After}
 use Rattle.kernel_cell.specs.declared.results.After.TheVariants as to
@@ -34,7 +33,6 @@ use Rattle.kernel_cell.specs.declared.results.Came.TheVariants as came
 use Rattle.kernel_cell.specs.declared.results.EndBy.{EndBy}
 use Rattle.kernel_cell.specs.declared.results.Idled.{Idled}
 use Rattle.kernel_cell.specs.declared.results.Idled.TheVariants as idle
-use Rattle.kernel_cell.specs.declared.results.Times.{Times}
 
 -- ---- what became of threads
 
@@ -211,13 +209,12 @@ abbrev pub IsForked : Launch → Passing → ℕ → Body → Call → Body → 
 IsForked launch v t body call body' w result =
     Seen launch v w (λ log after. IsForkedOn launch log v.pid t body call body' after (by_number result) × HasSeen after result)
 
--- Nothing happened, and the pass has seen the history as it is: whether the process is live in it, and its moment.
-pub record Looked (launch : Launch) (v w : Passing) (lives : Bool) (moment : ℕ) : Type 0 where
+-- Nothing happened, and the pass has seen the history as it is: whether the process is live in it.
+pub record Looked (launch : Launch) (v w : Passing) (lives : Bool) : Type 0 where
   pub pid : w.pid ≡ v.pid
   pub seen : IsSeen launch v.pid w.seen
   pub later : Later v.pid v.seen w.seen
   pub live : IsTrue lives ↔ IsLiveIn (world launch w.seen) v.pid
-  pub moment_is : moment ≡ (world launch w.seen).state.clock
 
 -- ---- time
 
@@ -234,35 +231,6 @@ MayJumpAfter launch log = MayJump launch.constants (world launch log).state
 abbrev pub IsIdledOn : Launch → List Entry → List Entry → Idled → Type 0
 IsIdledOn launch log after idle.Jumped = AppendsJump launch log after
 IsIdledOn launch log after idle.Busy = (after ≡ log) × ¬ MayJumpAfter launch log × ¬ Stalled launch log
+IsIdledOn launch log after idle.Over = (after ≡ log) × ((p : ℕ) → ¬ IsLiveIn (world launch log) p)
 IsIdledOn launch log after idle.Stalled = (after ≡ log) × Stalled launch log
 IsIdledOn launch log after idle.NoMemory = after ≡ log
-
--- the moment of the history, and until when the thread waits after it
-pub record AreTimes (launch : Launch) (history : List Entry) (p t : ℕ) (times : Times) : Type 0 where
-  pub moment : times.moment ≡ (world launch history).state.clock
-  pub until : times.until ≡ waits_until (thread_of (world launch history).state p t)
-
--- these are told
-abbrev pub AreTold : Launch → List Entry → ℕ → ℕ → Option Times → Type 0
-AreTold launch history p t (Some times) = AreTimes launch history p t times
-AreTold launch history p t None = ⊥
-
--- They are told with what came of what the thread asked for. Nothing new is told only where it just goes on, after a call by which it doesn't
--- give way.
-abbrev pub TellsTimes : Launch → List Entry → ℕ → ℕ → Asked → Came After → Option Times → Option Times → Type 0
-TellsTimes launch history p t what result told told' =
-    AreTold launch history p t told' ⊎ ((told' ≡ told) × (keeps_worker what ≡ true) × (result ≡ came.Done to.Runs))
-
--- whether a thread of which this came keeps its worker, if it may
-abbrev pub stays : Bool → Came After → Bool
-stays may (came.Done to.Runs) = may
-stays may result = false
-
--- the times by the kernel's state
-abbrev pub AreIn : State → ℕ → ℕ → Option Times → Type 0
-AreIn S p t (Some times) = (times.moment ≡ S.clock) × (times.until ≡ waits_until (thread_of S p t))
-AreIn S p t None = ⊥
-
--- these are told, or nothing new where the thread keeps its worker
-abbrev pub IsTimed : State → ℕ → ℕ → Bool → Option Times → Option Times → Type 0
-IsTimed S p t stay told told' = AreIn S p t told' ⊎ ((told' ≡ told) × (stay ≡ true))

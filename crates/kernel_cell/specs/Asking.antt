@@ -63,12 +63,6 @@ Answers (asked.Calls call) a = (given : Answer) × (a ≡ act.Call call given)
 Answers asked.Wakes a = (call : Call) × (given : WakeIn) × (answered : Answer) × (a ≡ act.Wake call given answered)
 Answers (asked.Ends how) a = a ≡ act_of how
 
--- whether a thread that asks for this keeps its worker, where it goes on: it makes a call by which it doesn't give way
-abbrev pub keeps_worker : Asked → Bool
-keeps_worker (asked.Calls ThreadYield) = false
-keeps_worker (asked.Calls call) = true
-keeps_worker what = false
-
 -- it is a wake
 abbrev pub IsWake : Asked → Type 0
 IsWake asked.Wakes = Unit {0}

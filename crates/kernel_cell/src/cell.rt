@@ -3,13 +3,13 @@ ghost use Rattle.std.specs.Prelude.{◌≡◌, [], IfOk};
 ghost use Rattle.call_codec.specs.Bounded.{IsBounded};
 ghost use Rattle.run_model.specs.World.{world};
 ghost use Rattle.guest_process.specs.Children.{IsFork};
-ghost use Rattle.kernel_cell.specs.Acting.{AreTold, IsActed, IsForked, Looked, TellsTimes};
+ghost use Rattle.kernel_cell.specs.Acting.{IsActed, IsForked, Looked};
 ghost use Rattle.kernel_cell.specs.Asking.{Asks, AsksCall};
 ghost use Rattle.kernel_cell.specs.Cell.{IsBookOf};
 
 use crate::locked::Locked;
-use crate::results::{After, Asked, Body, Came, Idled, Times};
-use abi_types::{Call, Tid};
+use crate::results::{After, Asked, Body, Came, Idled};
+use abi_types::{Call, Pid, Tid};
 use atomic_table::{Seat, Table};
 use guest_process::{FIRST, Guest};
 use kernel_core::Kernel;
@@ -151,11 +151,10 @@ impl<J: Naming> Cell<J> {
         body: &mut Body,
         tid: Tid,
         what: Asked,
-        told: &mut Option<Times>,
+        told: &mut bool,
     ) -> Came<After>
         requires { Asks (world J.launch pass.old.seen) pass.old.pid tid body.old what }
         ensures acted { IsActed J.launch pass.old tid body.old what body.new pass.new result }
-        ensures times { TellsTimes J.launch pass.new.seen pass.old.pid tid what result told.old told.new }
     {
         self.guarded
             .lock(rt)
@@ -172,12 +171,11 @@ impl<J: Naming> Cell<J> {
         body: &mut Body,
         tid: Tid,
         call: Call,
-        told: &mut Option<Times>,
+        told: &mut bool,
     ) -> Came<Option<(Pass<J>, Guest)>>
         requires asks { AsksCall (world J.launch pass.old.seen) pass.old.pid tid body.old.turns body.old.guest call }
         requires fork { IsFork call }
         ensures forked { IsForked J.launch pass.old tid body.old call body.new pass.new result }
-        ensures times { AreTold J.launch pass.new.seen pass.old.pid tid told.new }
     {
         self.guarded
             .lock(rt)
@@ -185,14 +183,24 @@ impl<J: Naming> Cell<J> {
             .fork(&self.passes, pass, body, tid, call, told)
     }
 
-    /// Lets time go to the next deadline where no thread takes turns or is ready. With what became of it comes the moment then.
-    pub fn idle<R: Wait>(&self, rt: &R) -> (Idled, u64) {
+    /// Lets time go to the next deadline where no thread takes turns or is ready.
+    pub fn idle<R: Wait>(&self, rt: &R) -> Idled {
         self.guarded.lock(rt).locked.idle(&self.passes)
     }
 
-    /// Whether the pass's process is live, and the moment now.
-    pub fn look<R: Wait>(&self, rt: &R, pass: &mut Pass<J>) -> (bool, u64)
-        ensures { Looked J.launch pass.old pass.new result.0 result.1 }
+    /// The ready thread with the least numbers behind this one, or of all.
+    pub fn next_ready<R: Wait>(&self, rt: &R, after: Option<(Pid, Tid)>) -> Option<(Pid, Tid)> {
+        self.guarded.lock(rt).locked.next_ready(after)
+    }
+
+    /// A thread that waited and is no more, of which nobody was told.
+    pub fn take_gone<R: Wait>(&self, rt: &R) -> Option<(Pid, Tid)> {
+        self.guarded.lock(rt).locked.take_gone()
+    }
+
+    /// Whether the pass's process is live.
+    pub fn look<R: Wait>(&self, rt: &R, pass: &mut Pass<J>) -> bool
+        ensures { Looked J.launch pass.old pass.new result }
     {
         self.guarded.lock(rt).locked.look(&self.passes, pass)
     }

@@ -4,7 +4,7 @@
 pub use cell::{Begun, Book, Cell};
 pub use locked::Locked;
 pub use record::Record;
-pub use results::{After, Asked, Body, Came, Doing, EndBy, Idled, Times};
+pub use results::{After, Asked, Body, Came, Doing, EndBy, Idled};
 pub use shared_history::{Kept, Naming, Pass, Passes, Past};
 
 mod afterwards;

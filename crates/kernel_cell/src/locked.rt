@@ -2,12 +2,14 @@
 //! does what it does, and hands the pass out again.
 ghost use Rattle.std.specs.Prelude.{◌≡◌, [], ◌∷◌};
 ghost use Rattle.guest_process.specs.Children.{IsFork};
+ghost use Rattle.kernel_model.specs.Waits.{HasDeadlines};
+ghost use Rattle.readiness_laws.specs.NextReady.{IsNextReady};
 ghost use Rattle.run_model.specs.Own.{IsLiveIn};
 ghost use Rattle.run_model.specs.World.{world};
 ghost use Rattle.shared_history.specs.Kept.{HasRoom};
 ghost use Rattle.kernel_cell.specs.declared.results.Asked.TheVariants as asked;
-ghost use Rattle.kernel_cell.specs.Acting.{stays, AreTold, HasEnded, Looked, IsActed, IsActedOn, IsForked, IsForkedOn, IsIdledOn, IsTimed, TellsTimes};
-ghost use Rattle.kernel_cell.specs.Asking.{keeps_worker, Asks, AsksCall, AsksEnd, AsksWake, HasNoChild};
+ghost use Rattle.kernel_cell.specs.Acting.{HasEnded, Looked, IsActed, IsActedOn, IsForked, IsForkedOn, IsIdledOn};
+ghost use Rattle.kernel_cell.specs.Asking.{Asks, AsksCall, AsksEnd, AsksWake, HasNoChild};
 ghost use Rattle.kernel_cell.specs.Handing.{held_after, held_without, with_pass, MayHandOut};
 ghost use Rattle.kernel_cell.specs.Recorded.{IsInOrder};
 
@@ -15,7 +17,7 @@ use crate::afterwards::{
     act_of, after_call, after_wake, child_guest, child_told, if_live, keep_place, leave_place,
     make_place, number_for, status_of, unless_lost,
 };
-use crate::results::{After, Asked, Body, Came, EndBy, Idled, Times};
+use crate::results::{After, Asked, Body, Came, EndBy, Idled};
 use abi_types::{Call, Constants, Pid, Tid, TidList};
 use guest_process::Guest;
 use kernel_core::{Kernel, Woken};
@@ -34,40 +36,14 @@ pub struct Locked<J: Naming> {
     pub alloc: Global,
 }
 
-// Whether a thread that asks for this keeps its worker, where it goes on.
-fn keeps_worker(what: &Asked) -> bool
-    ensures { result ≡ keeps_worker what.now }
+// Tells whether somebody is to be asked for: a thread is ready, or one that waited is no more.
+fn tell_news(kernel: &mut Kernel, constants: &Constants, told: &mut bool)
+    requires { HasDeadlines constants.now kernel.old }
+    ensures { kernel.new ≡ kernel.old }
 {
-    match what {
-        Asked::Calls(call) => !matches!(call, Call::ThreadYield),
-        _ => false,
+    if kernel.take_news(constants) {
+        *told = true;
     }
-}
-
-// Whether a thread of which this came keeps its worker, if it may.
-fn stays(may: bool, came: &Came<After>) -> bool
-    ensures { result ≡ stays may came.now }
-{
-    match came {
-        Came::Done(After::Runs) => may,
-        _ => false,
-    }
-}
-
-// Tells the moment now, until when a thread waits, and the threads to be looked at again, which none is then. Nothing new is told where the
-// thread keeps its worker and none is to be looked at.
-fn tell_times(kernel: &mut Kernel, pid: Pid, tid: Tid, stays: bool, told: &mut Option<Times>)
-    ensures told { IsTimed kernel.old pid tid stays told.old told.new }
-    ensures same { kernel.new ≡ kernel.old }
-{
-    if stays && !kernel.has_wakes() {
-        return;
-    }
-    *told = Some(Times {
-        moment: kernel.moment(),
-        until: kernel.until(pid, tid),
-        wakes: kernel.take_wakes(),
-    });
 }
 
 // The pass and the guest of the child, if there is one, whose pass the keeper hands out.
@@ -101,7 +77,7 @@ impl<J: Naming> Locked<J> {
         body: &mut Body,
         tid: Tid,
         what: Asked,
-        told: &mut Option<Times>,
+        told: &mut bool,
     ) -> Came<After>
         requires recorded { IsInOrder J.launch J.keeps_all self.old }
         requires asks { Asks (world J.launch pass.old.seen) pass.old.pid tid body.old what }
@@ -109,16 +85,13 @@ impl<J: Naming> Locked<J> {
         ensures pass { IsActed J.launch pass.old tid body.old what body.new pass.new result }
         ensures history { IsActedOn J.launch self.old.keeper.log pass.old.pid tid body.old what body.new self.new.keeper.log result }
         ensures seen { pass.new.seen ≡ self.new.keeper.log }
-        ensures times { TellsTimes J.launch pass.new.seen pass.old.pid tid what result told.old told.new }
     {
         let pid = pass.pid;
         self.keeper
             .take_in(passes, Pass::lent(pid, &mut pass.badge));
-        let may = keeps_worker(&what);
         let came = self.enter(passes, pid, tid, body, what);
         *pass = self.keeper.hand_out(passes, pid);
-        let stays = stays(may, &came);
-        tell_times(&mut self.kernel, pid, tid, stays, told);
+        tell_news(&mut self.kernel, &self.constants, told);
         came
     }
 
@@ -270,7 +243,7 @@ impl<J: Naming> Locked<J> {
         body: &mut Body,
         tid: Tid,
         call: Call,
-        told: &mut Option<Times>,
+        told: &mut bool,
     ) -> Came<Option<(Pass<J>, Guest)>>
         requires recorded { IsInOrder J.launch J.keeps_all self.old }
         requires asks { AsksCall (world J.launch pass.old.seen) pass.old.pid tid body.old.turns body.old.guest call }
@@ -278,7 +251,6 @@ impl<J: Naming> Locked<J> {
         ensures recorded { IsInOrder J.launch J.keeps_all self.new }
         ensures pass { IsForked J.launch pass.old tid body.old call body.new pass.new result }
         ensures seen { pass.new.seen ≡ self.new.keeper.log }
-        ensures times { AreTold J.launch pass.new.seen pass.old.pid tid told.new }
     {
         let pid = pass.pid;
         self.keeper
@@ -286,7 +258,7 @@ impl<J: Naming> Locked<J> {
         let forked = self.make_child(passes, pid, tid, body, call);
         let child = with_pass(&mut self.keeper, passes, forked);
         *pass = self.keeper.hand_out(passes, pid);
-        tell_times(&mut self.kernel, pid, tid, false, told);
+        tell_news(&mut self.kernel, &self.constants, told);
         child
     }
 
@@ -329,8 +301,8 @@ impl<J: Naming> Locked<J> {
         Came::Done(child.zip(begun))
     }
 
-    // Lets time go to the next deadline where no thread takes turns or is ready.
-    fn jump(&mut self, passes: &Passes<J>) -> Idled
+    /// Lets time go to the next deadline where no thread takes turns or is ready.
+    pub fn idle(&mut self, passes: &Passes<J>) -> Idled
         requires recorded { IsInOrder J.launch J.keeps_all self.old }
         ensures recorded { IsInOrder J.launch J.keeps_all self.new }
         ensures idled { IsIdledOn J.launch self.old.keeper.log self.new.keeper.log result }
@@ -346,26 +318,37 @@ impl<J: Naming> Locked<J> {
         }
         if self.kernel.stalled(&self.constants) {
             Idled::Stalled
-        } else {
+        } else if self.kernel.any_live() {
             Idled::Busy
+        } else {
+            Idled::Over
         }
     }
 
-    /// Lets time go to the next deadline where no thread takes turns or is ready. With what became of it comes the moment then.
-    pub fn idle(&mut self, passes: &Passes<J>) -> (Idled, u64)
+    /// The ready thread with the least numbers behind this one, or of all.
+    pub fn next_ready(&mut self, after: Option<(Pid, Tid)>) -> Option<(Pid, Tid)>
         requires recorded { IsInOrder J.launch J.keeps_all self.old }
         ensures recorded { IsInOrder J.launch J.keeps_all self.new }
-        ensures idled { IsIdledOn J.launch self.old.keeper.log self.new.keeper.log result.0 }
-        ensures moment { result.1 ≡ self.new.kernel.clock }
+        ensures history { self.new.keeper.log ≡ self.old.keeper.log }
+        ensures next { IsNextReady self.old.constants self.old.kernel after result }
     {
-        (self.jump(passes), self.kernel.moment())
+        self.kernel.next_ready(&self.constants, after)
     }
 
-    /// Whether the pass's process is live, and the moment now.
-    pub fn look(&mut self, passes: &Passes<J>, pass: &mut Pass<J>) -> (bool, u64)
+    /// A thread that waited and is no more, of which nobody was told.
+    pub fn take_gone(&mut self) -> Option<(Pid, Tid)>
         requires recorded { IsInOrder J.launch J.keeps_all self.old }
         ensures recorded { IsInOrder J.launch J.keeps_all self.new }
-        ensures pass { Looked J.launch pass.old pass.new result.0 result.1 }
+        ensures history { self.new.keeper.log ≡ self.old.keeper.log }
+    {
+        self.kernel.take_gone()
+    }
+
+    /// Whether the pass's process is live.
+    pub fn look(&mut self, passes: &Passes<J>, pass: &mut Pass<J>) -> bool
+        requires recorded { IsInOrder J.launch J.keeps_all self.old }
+        ensures recorded { IsInOrder J.launch J.keeps_all self.new }
+        ensures pass { Looked J.launch pass.old pass.new result }
         ensures history { self.new.keeper.log ≡ self.old.keeper.log }
         ensures seen { pass.new.seen ≡ self.new.keeper.log }
     {
@@ -373,7 +356,7 @@ impl<J: Naming> Locked<J> {
         self.keeper
             .take_in(passes, Pass::lent(pid, &mut pass.badge));
         *pass = self.keeper.hand_out(passes, pid);
-        (self.kernel.live(pid), self.kernel.moment())
+        self.kernel.live(pid)
     }
 
     /// Takes back the pass of a process that needs it no more.

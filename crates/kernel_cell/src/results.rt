@@ -1,7 +1,6 @@
 //! What the locked kernel is asked for by a process's threads, and what it answers.
 use abi_types::{Call, Signal, Tid, TidList};
 use guest_process::Guest;
-use kernel_core::Wakes;
 use maps::NumMap;
 
 /// What a thread does.
@@ -75,24 +74,15 @@ pub enum After {
     Ended,
 }
 
-/// The moment after what was done, in nanoseconds since the run began, until when the thread waits then, and the threads to be looked at again.
-#[derive(Drop)]
-pub struct Times {
-    pub moment: u64,
-    /// `None` where the thread doesn't wait, and where there is no such moment.
-    pub until: Option<u64>,
-    /// Those that waited on channels which have changed, those that were given a lock or signalled at a condition variable, and those of
-    /// processes that have ended. Who gets them is to have them looked at, since nobody else does.
-    pub wakes: Wakes,
-}
-
 /// What became of the time where no thread takes turns.
 #[derive(Clone, Copy)]
 pub enum Idled {
     /// It went to the next deadline, which is an entry.
     Jumped,
-    /// Some thread takes turns or is ready, or there is none.
+    /// Some thread takes turns or is ready.
     Busy,
+    /// No process is live.
+    Over,
     /// Each thread waits, none is ready, and none has a deadline: nothing can happen any more.
     Stalled,
     /// Memory ran out, and no entry was added.

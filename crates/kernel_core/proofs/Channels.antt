@@ -4,6 +4,7 @@
 --     counts_few      they stay far from what a count can have
 --     SetsThere, AreOfEnds      updates set channels that are there;  or these and the table of a process
 --     channels_put, ends_put      the state after such updates
+--     reader_by, writer_by      an end that reads the channel, and one that writes it
 --     going_after      no channel is over after them
 --     end_sets, end_is, end_nearly      fd_read and fd_write on an end
 --     socket_sets, socket_does, socket_nearly, socket_small      calls on sockets
@@ -184,7 +185,7 @@ keys_after (u ∷ us) p chans base of keys = absurd of.0
 -- ---- no channel is over
 
 -- an end that reads the channel, and one that writes it
-reader_by : (c : ℕ) (kind : Option OpenKind) → is_reader c kind ≡ true → (writes : Option ℕ) × (flags : ℕ) × (form : ChanKind) × (kind ≡ Some (End (Some c) writes flags form))
+pub reader_by : (c : ℕ) (kind : Option OpenKind) → is_reader c kind ≡ true → (writes : Option ℕ) × (flags : ℕ) × (form : ChanKind) × (kind ≡ Some (End (Some c) writes flags form))
 reader_by c (Some (End (Some r) writes flags form)) h =
     elim (eqb_tells r c) [
       | inl is ↦ (writes, flags, form, ap (λ q. Some (End (Some q) writes flags form)) is.1)
@@ -192,7 +193,7 @@ reader_by c (Some (End (Some r) writes flags form)) h =
     ]
 reader_by c kind h = absurd (not_true h)
 
-writer_by : (c : ℕ) (kind : Option OpenKind) → is_writer c kind ≡ true → (reads : Option ℕ) × (flags : ℕ) × (form : ChanKind) × (kind ≡ Some (End reads (Some c) flags form))
+pub writer_by : (c : ℕ) (kind : Option OpenKind) → is_writer c kind ≡ true → (reads : Option ℕ) × (flags : ℕ) × (form : ChanKind) × (kind ≡ Some (End reads (Some c) flags form))
 writer_by c (Some (End reads (Some w) flags form)) h =
     elim (eqb_tells w c) [
       | inl is ↦ (reads, flags, form, ap (λ q. Some (End reads (Some q) flags form)) is.1)

@@ -3,6 +3,9 @@ pub mod Done
 pub mod Changes
 pub mod Channels
 pub mod Released
+pub mod HeldChannels
+pub mod HeldTables
+pub mod HeldNew
 pub mod Lives
 pub mod OffsetCalls
 pub mod Acts
@@ -20,6 +23,16 @@ pub mod Waiters
 pub mod OwnCalls
 pub mod EndCalls
 pub mod ForkCalls
+pub mod HeldBirths
 pub mod ExecCalls
 pub mod Raising
 pub mod Asking
+pub mod Walking
+pub mod HeldTimes
+pub mod HeldTold
+pub mod HeldEnds
+pub mod HeldSame
+pub mod HeldEntries
+pub mod HeldPlaces
+pub mod HeldStanding
+pub mod HeldDeadlines

@@ -4,6 +4,7 @@
 --     stream_is, stream_outcome_is, stream_done      on a standard stream;  it is done there
 --     end_outcome_is      on an end of channels
 --     offset_is, offset_outcome_is, offset_keeps      on any other open: it moves the open and changes the file tree;  it keeps what stands behind the open
+--     offset_looked      what waiting threads look at of the open is the same
 --     offset_valid, offset_done      the state after it is valid, and that of its outcome, of which nothing is released
 use Rattle.std.proofs.Common.{◌≡◌, ◌≢◌, ℕ, ◌+◌, ◌==◌, ◌&&◌, Bool, true, false, cond, List, [], ◌∷◌, ◌++◌, Option, None, Some, Result, Ok, Err, refl, sym, ap, subst, ◌∙◌}
 use Rattle.std.specs.Ordering.{nat_cmp}
@@ -48,6 +49,7 @@ use Rattle.kernel_model.specs.Valid.{IsNearlyValid, IsValid}
 use Rattle.kernel_model.specs.View.{whole}
 use Rattle.kernel_model.proofs.FileMeanings.{IsOfTree}
 use Rattle.kernel_model.proofs.OpenMeanings.{OpensWell}
+use Rattle.readiness_laws.specs.Spots.{bare, never_waits}
 use Rattle.kernel_model.proofs.StreamCalls.{read_opens_well, seek_opens_well, write_opens_well}
 use Rattle.kernel_model.proofs.Tests.{none_is_no, same_some}
 use Rattle.kernel_model.proofs.Valids.{IsSameBehind, release_valid, set_open_nearly_valid, set_term_nearly_valid, some_again}
@@ -206,14 +208,15 @@ record Keeps (kind : OpenKind) (m : OffsetOutcome) : Type 0 where
   tree : AllByRecursion IsOfTree m.outcome.updates
   behind : IsSameBehind kind (open_after kind m.moved)
   node : (n : ℕ) → one_of_node n (open_after kind m.moved) ≡ one_of_node n kind
+  looked : (bare (Some (open_after kind m.moved)) ≡ bare (Some kind)) × (never_waits (Some (open_after kind m.moved)) ≡ never_waits (Some kind))
 
 stays_keeps : (kind : OpenKind) (reply : Reply) → Keeps kind (stays reply)
-stays_keeps kind reply = record { tree = tt; behind = record { base = refl; inheriting = refl; behind = λ S h. h; alike = λ k. (refl, refl, refl) }; node = λ n. refl }
+stays_keeps kind reply = record { tree = tt; behind = record { base = refl; inheriting = refl; behind = λ S h. h; alike = λ k. (refl, refl, refl) }; node = λ n. refl; looked = (refl, refl) }
 
 moved_keeps : (node old new flags : ℕ) (o : Outcome) → AllByRecursion IsOfTree o.updates
     → Keeps (File node old flags) (record { outcome = o; moved = Some (File node new flags) })
 moved_keeps node old new flags o tree =
-    record { tree = tree; behind = record { base = refl; inheriting = refl; behind = λ S h. h; alike = λ k. (refl, refl, refl) }; node = λ n. refl }
+    record { tree = tree; behind = record { base = refl; inheriting = refl; behind = λ S h. h; alike = λ k. (refl, refl, refl) }; node = λ n. refl; looked = (refl, refl) }
 
 node_tree : (n : ℕ) (o : Option Node) → AllByRecursion IsOfTree (node_update n o)
 node_tree n None = tt
@@ -318,3 +321,10 @@ module _ (called : Call) (fd now : ℕ) (is : offset_fd called ≡ Some fd) (S :
 pub offset_same : (now : ℕ) (t u : Tree) (called : Call) (kind new : OpenKind) (reply : Reply) → IsAtOffset (offset_outcome_of now t called kind) t u kind new reply
     → (n : ℕ) → one_of_node n new ≡ one_of_node n kind
 offset_same now t u called kind new reply done n = ap (one_of_node n) done.1 ∙ (offset_keeps now t called kind).node n
+
+-- and what waiting threads look at of it is the same
+pub offset_looked : (now : ℕ) (t u : Tree) (called : Call) (kind new : OpenKind) (reply : Reply) → IsAtOffset (offset_outcome_of now t called kind) t u kind new reply
+    → (bare (Some new) ≡ bare (Some kind)) × (never_waits (Some new) ≡ never_waits (Some kind))
+offset_looked now t u called kind new reply done =
+    let keeps = (offset_keeps now t called kind).looked in
+    (ap (λ k. bare (Some k)) done.1 ∙ keeps.0, ap (λ k. never_waits (Some k)) done.1 ∙ keeps.1)

@@ -187,7 +187,7 @@ module _ (constants : Constants) (S : State) where
   )
 
   -- there is one least deadline
-  least_is_one : (a b : Option ℕ) → IsLeastDeadline S a → IsLeastDeadline S b → a ≡ b
+  pub least_is_one : (a b : Option ℕ) → IsLeastDeadline S a → IsLeastDeadline S b → a ≡ b
   least_is_one None None h i = refl
   least_is_one None (Some b) h i = absurd (h i.0.0 i.0.1 b i.0.2)
   least_is_one (Some a) None h i = absurd (i h.0.0 h.0.1 a h.0.2)

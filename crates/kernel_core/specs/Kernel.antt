@@ -11,6 +11,9 @@ use Rattle.fd_table.specs.Sizes.{KeysBelow}
 use Rattle.fd_table.specs.Table.{IsTable}
 use Rattle.kernel_model.specs.State.{State, Table}
 use Rattle.kernel_model.specs.Valid.{IsValid}
+use Rattle.kernel_parts.specs.Touching.{HasNoLast}
+use Rattle.readiness_laws.specs.Watched.{AreEntries, looked_at}
+use Rattle.wait_set.specs.Waits.{WaitMap}
 
 -- The state is valid, each open's count is that of its holders and its carriers, of which there are few, and tables and processes have
 -- numbers that fit their types.
@@ -30,3 +33,16 @@ is_live (Killed signal) = false
 -- whether some process is live
 abbrev pub any_live : State → Bool
 any_live S = is_some (least_key (λ _ status. is_live status) S.statuses)
+
+-- ---- the threads that wait
+
+-- Each live thread has its entry, and one that waits is marked as ready where it is, unless it is left to be looked at (IsWatched). No entry has the number
+-- that is left out of the last process.
+pub record AreHeld (S : State) (W : WaitMap) : Type 0 where
+  pub watched : AreEntries S W
+  pub last : HasNoLast W
+
+-- all that is kept beside the state
+pub record IsHeld (S : State) (counts : FinMap nat_cmp ℕ) (W : WaitMap) : Type 0 where
+  pub kept : IsKept S counts
+  pub waits : AreHeld (looked_at S) W

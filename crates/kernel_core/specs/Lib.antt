@@ -9,3 +9,4 @@ pub mod Ends
 pub mod Sockets
 pub mod Forks
 pub mod Programs
+pub mod Readiness

@@ -15,6 +15,7 @@ use Rattle.kernel_model.specs.Deadlines.{least_deadline}
 use Rattle.kernel_model.specs.Families.Locks.{with_word}
 use Rattle.kernel_model.specs.State.{State, thread_of}
 use Rattle.kernel_model.specs.Wakes.{is_ready, may_queue, IsStalled, MayJump}
+use Rattle.kernel_parts.specs.Activity.{wait_by}
 use Rattle.kernel_parts.specs.declared.activity.Activity.{Activity}
 use Rattle.kernel_parts.specs.declared.activity.Activity.TheVariants.{NoThread, Busy, Waiting}
 
@@ -45,6 +46,10 @@ call_ahead wake.Fault thread = None
 call_ahead (wake.Plain word) None = None
 call_ahead (wake.Plain word) (Some Runnable) = None
 call_ahead (wake.Plain word) (Some (Waits call since until stage)) = if may_queue call (Some stage) then Some (with_word word call) else None
+
+-- until when the thread waits that has these numbers, whether it goes on now or not
+abbrev pub wait_in : State → ℕ × ℕ → Activity
+wait_in S i = wait_by (thread_of S i.0 i.1)
 
 -- where the thread wasn't ready this holds
 abbrev pub IfNotReady : Woken → Type 0 → Type 0

@@ -9,15 +9,19 @@ ghost use Rattle.kernel_model.specs.Families.DescriptorCalls.{stat_get, stat_of,
 ghost use Rattle.kernel_model.specs.State.{Table};
 ghost use Rattle.kernel_model.specs.View.{whole};
 ghost use Rattle.kernel_parts.specs.Changes.{change_outcome, HasReplaced};
+ghost use Rattle.kernel_core.specs.Readiness.{number_changed, number_given, open_changed, AreLeftBy};
 
 use crate::kernel::Kernel;
+use crate::readiness::touch_number_of;
 use abi_types::{
     Answer, Descriptor, DescriptorChange, Errno, FdStat, OpenKind, Payload, Pid, Reply,
 };
 use file_calls::type_number;
-use kernel_parts::{change_table, open_of, release};
+use kernel_parts::{ProcessState, change_table, open_of, release, touch_end};
+use maps::NumMap;
 use right_rules::{refused, success_with};
 use std::alloc::AllocError;
+use wait_set::WaitSet;
 
 // An open's flags. A process has none.
 fn flags_of(kind: &OpenKind) -> u16
@@ -44,6 +48,23 @@ fn stat_of(descriptor: &Descriptor, kind: &OpenKind) -> FdStat
     }
 }
 
+// Those that wait on the number, or at the open's channels, are left.
+fn touch_changed(
+    waits: &mut WaitSet,
+    processes: &NumMap<ProcessState>,
+    pid: Pid,
+    changed: &(Option<u32>, Option<OpenKind>),
+)
+    ensures { AreLeftBy pid (map.get processes.now pid) changed.now.0 changed.now.1 waits.old waits.new }
+{
+    if let Some(fd) = changed.0 {
+        touch_number_of(waits, processes, pid, fd);
+    }
+    if let Some(kind) = &changed.1 {
+        touch_end(waits, kind);
+    }
+}
+
 impl Kernel {
     // What the descriptor is and may do.
     pub(crate) fn fd_stat_get(&self, pid: Pid, fd: u32) -> Reply
@@ -54,6 +75,30 @@ impl Kernel {
             Some((descriptor, kind)) => {
                 success_with(0, Payload::FdStat(stat_of(&descriptor, &kind)))
             }
+        }
+    }
+
+    // The lowest free number of a process, if there is one.
+    fn lowest_free(&self, pid: Pid) -> Option<u32>
+        ensures { result ≡ number_given (map.get self.now.tables pid) }
+    {
+        self.tables.get(u64::from(pid.0))?.lowest()
+    }
+
+    // The number that a change gives to something else, if it does, and the open whose flags it may put.
+    fn changed_by(&self, pid: Pid, change: DescriptorChange) -> (Option<u32>, Option<OpenKind>)
+        ensures number { result.0 ≡ number_changed (map.get self.now.tables pid) change }
+        ensures open { result.1 ≡ open_changed self.now.opens (map.get self.now.tables pid) change }
+    {
+        match change {
+            DescriptorChange::Close { fd } | DescriptorChange::Replace { to: fd, .. } => {
+                (Some(fd), None)
+            }
+            DescriptorChange::Dup { .. } => (self.lowest_free(pid), None),
+            DescriptorChange::StatPut { fd, .. } => (
+                Some(fd),
+                open_of(&self.tables, &self.objects, pid, fd).map(|(_, kind)| kind),
+            ),
         }
     }
 
@@ -70,7 +115,9 @@ impl Kernel {
             self.old self.new result }
     {
         let p = u64::from(pid.0);
+        let changed = self.changed_by(pid, change);
         let reply = change_table(self.tables.get_mut(p), &mut self.objects, change)?;
+        touch_changed(&mut self.waits, &self.processes, pid, &changed);
         release(
             &mut self.objects,
             &mut self.tree,
@@ -78,6 +125,7 @@ impl Kernel {
             &mut self.processes,
             &mut self.statuses,
             &mut self.channels,
+            &mut self.waits,
         );
         Ok(Answer::Reply(reply))
     }

@@ -11,6 +11,7 @@ ghost use Rattle.kernel_model.specs.State.{Table};
 ghost use Rattle.kernel_model.specs.Valid.{IsValid};
 
 use crate::kernel::Kernel;
+use crate::readiness::touch_number_of;
 use abi_types::flags::{FILETYPE_FIFO, FILETYPE_SOCKET_STREAM};
 use abi_types::{Answer, Errno, ObjId, Reply, Who};
 use channel_calls::{Pair, PairKind, put_pair};
@@ -100,6 +101,8 @@ impl Kernel {
             &pair,
         )?;
         self.processes.get_mut(p).make(count_of(kind));
+        touch_number_of(&mut self.waits, &self.processes, who.pid, pair.one);
+        touch_number_of(&mut self.waits, &self.processes, who.pid, pair.two);
         release(
             &mut self.objects,
             &mut self.tree,
@@ -107,6 +110,7 @@ impl Kernel {
             &mut self.processes,
             &mut self.statuses,
             &mut self.channels,
+            &mut self.waits,
         );
         let reply = success(u64::from(pair.one), u64::from(pair.two));
         Ok(Answer::Reply(reply))

@@ -12,7 +12,9 @@ ghost use Rattle.kernel_model.specs.Valid.{IsValid};
 ghost use Rattle.process_calls.specs.Forks.{IsPlan};
 
 use crate::kernel::Kernel;
+use crate::readiness::touch_number_of;
 use abi_types::{Answer, Errno, Payload, Pid, Reply, Who};
+use kernel_parts::ensure_entry;
 use process_calls::{NewChild, plan_child, put_child};
 use right_rules::{refused, success_with};
 use std::alloc::AllocError;
@@ -47,6 +49,7 @@ impl Kernel {
             → self.new ≡ release (put_all (fork_updates plan.now.parent plan.now.tid own table plan.now.fd) self.old)) }
         ensures err { OnErr result (self.new ≡ self.old) }
     {
+        ensure_entry(&mut self.waits, plan.child, plan.tid)?;
         put_child(
             self.alloc,
             &mut self.tables,
@@ -55,6 +58,7 @@ impl Kernel {
             &mut self.objects,
             plan,
         )?;
+        touch_number_of(&mut self.waits, &self.processes, plan.parent, plan.fd);
         Ok(())
     }
 

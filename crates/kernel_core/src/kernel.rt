@@ -21,16 +21,19 @@ ghost use Rattle.abi_types.specs.declared.reply.Answer.{Answer};
 ghost use Rattle.kernel_model.specs.State.{State, put_all, Table, Part, has_part, Agree, thread_of, tree_of, written_to};
 ghost use Rattle.kernel_model.specs.Step.{failed, outside, IsStep, IsUntouched, end_unreleased, end_state, step_answer};
 ghost use Rattle.kernel_model.specs.Valid.{IsValid};
+ghost use Rattle.kernel_parts.specs.Keys.{key};
+ghost use Rattle.wait_set.specs.Waits.{fresh};
 
+use crate::readiness::touch_time;
 use abi_types::{
     Answer, Call, Constants, Denial, Descriptor, Errno, Needed, Pid, Reply, Status, Thread, Tid,
     TryClone, Who,
 };
-use channel_calls::{Channels, Wakes};
+use channel_calls::Channels;
 use fd_table::FdTable;
 use file_tree::Tree;
 use kernel_parts::{
-    ProcessState, Terminal, granted, let_go_all, release, single, streams, wake_at_end,
+    ProcessState, Terminal, granted, let_go_all, release, single, streams, thread_key, touch_ended,
 };
 use maps::NumMap;
 use object_store::Objects;
@@ -39,6 +42,7 @@ use right_rules::refused;
 use run_types::Launch;
 use std::alloc::{AllocError, Global};
 use std::marker::Model;
+use wait_set::WaitSet;
 
 // How long each call takes, and each end from outside, in nanoseconds.
 pub(crate) const STEP_TIME: u64 = 1000;
@@ -54,13 +58,15 @@ pub struct Kernel {
     pub(crate) tree: Tree,
     pub(crate) terms: NumMap<Terminal>,
     pub(crate) channels: Channels,
+    // Each live thread, where it stands if it waits, and whether it is ready.
+    pub(crate) waits: WaitSet,
     pub(crate) alloc: Global,
 }
 
 impl Model for Kernel {
     ghost use Rattle.kernel_model.specs.State.{State, no_state};
     ghost use Rattle.kernel_model.specs.Codes.{state_code};
-    ghost use Rattle.kernel_core.specs.Kernel.{IsKept};
+    ghost use Rattle.kernel_core.specs.Kernel.{IsHeld};
 
     ghost Value = { State };
 
@@ -68,7 +74,7 @@ impl Model for Kernel {
 
     ghost view = { λ k. record no_state { clock = k.clock; tables = k.tables; processes = k.processes; statuses = k.statuses; opens = k.objects.kinds; nodes = k.tree.nodes; names = k.tree.names; terms = k.terms; chans = k.channels } };
 
-    ghost invariant = { λ k. IsKept (record no_state { clock = k.clock; tables = k.tables; processes = k.processes; statuses = k.statuses; opens = k.objects.kinds; nodes = k.tree.nodes; names = k.tree.names; terms = k.terms; chans = k.channels }) k.objects.counts };
+    ghost invariant = { λ k. IsHeld (record no_state { clock = k.clock; tables = k.tables; processes = k.processes; statuses = k.statuses; opens = k.objects.kinds; nodes = k.tree.nodes; names = k.tree.names; terms = k.terms; chans = k.channels }) k.objects.counts k.waits };
 }
 
 // Whether the status is that of a live process.
@@ -76,6 +82,15 @@ fn is_live(status: &Status) -> bool
     ensures { result ≡ is_live status.now }
 {
     matches!(status, Status::Live)
+}
+
+// The first thread, alone.
+fn first_waits(alloc: Global) -> Result<WaitSet, AllocError>
+    ensures { IfOk result (λ waits. waits ≡ map.insert map.empty (key 0 1) fresh) }
+{
+    let mut waits = WaitSet::new(alloc);
+    waits.begin(thread_key(Pid(0), Tid(1)))?;
+    Ok(waits)
 }
 
 impl Kernel {
@@ -96,6 +111,7 @@ impl Kernel {
             tree: launch.tree.copy()?,
             terms: streams(alloc, &launch.stdin)?,
             channels: Channels::new(alloc),
+            waits: first_waits(alloc)?,
             alloc,
         })
     }
@@ -107,8 +123,8 @@ impl Kernel {
     {
         let p = u64::from(pid.0);
         self.statuses.replace(p, status);
+        touch_ended(&mut self.waits, pid);
         let own = self.processes.get_mut(p);
-        wake_at_end(&mut self.channels, pid, own);
         own.end();
         let_go_all(self.tables.get_mut(p), &mut self.objects);
         release(
@@ -118,6 +134,7 @@ impl Kernel {
             &mut self.processes,
             &mut self.statuses,
             &mut self.channels,
+            &mut self.waits,
         );
     }
 
@@ -132,7 +149,9 @@ impl Kernel {
         if let Some(first) = lock_subscription(call) {
             return self.call_lock(constants, who, call, first);
         }
+        let before = self.clock;
         self.clock += STEP_TIME;
+        touch_time(&mut self.waits, before, self.clock);
         match self.dispatch(constants, who, call) {
             Ok(Answer::Reply(reply)) => Answer::Reply(reply),
             Ok(Answer::Parked(writes)) => match self.park(constants, who, call) {
@@ -200,21 +219,10 @@ impl Kernel {
         ensures others { (q : Part) → has_part (process_parts pid) q ≡ false
             → is_released (end_unreleased self.old pid status) q ≡ false → Agree self.new self.old q }
     {
+        let before = self.clock;
         self.clock += STEP_TIME;
+        touch_time(&mut self.waits, before, self.clock);
         self.end_process(pid, status);
-    }
-
-    /// Whether some thread is to be looked at again, since a channel on which it waits has changed, or a process for whose end it waits has
-    /// ended.
-    pub fn has_wakes(&self) -> bool {
-        self.channels.has_wakes()
-    }
-
-    /// The threads that are to be looked at again, which none is then.
-    pub fn take_wakes(&mut self) -> Wakes
-        ensures { self.new ≡ self.old }
-    {
-        self.channels.take_wakes()
     }
 
     /// Whether the process is live.

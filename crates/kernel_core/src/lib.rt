@@ -1,7 +1,6 @@
 //! The sequential kernel: one state, and a step for each call. It knows no machine, no worker and no lock.
 #![tactic(auto)]
 
-pub use channel_calls::{ThreadOf, Wakes};
 pub use kernel::Kernel;
 pub use kernel_parts::Activity;
 pub use run_types::{Act, Entry, Launch};
@@ -20,6 +19,7 @@ mod offset_calls;
 mod opening;
 mod programs;
 mod random;
+mod readiness;
 mod signals;
 mod sockets;
 mod thread_numbers;

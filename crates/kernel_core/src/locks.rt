@@ -12,9 +12,10 @@ ghost use Rattle.kernel_model.specs.Wakes.{may_queue, LacksNoMemory};
 ghost use Rattle.poll_set.specs.Polls.{BeginsWith};
 
 use crate::kernel::{Kernel, STEP_TIME};
+use crate::readiness::touch_time;
 use abi_types::{Answer, Call, Constants, Errno, Stage, Subscription, TryClone, What, Who};
 use guest_locks::Told;
-use kernel_parts::look_again;
+use kernel_parts::touch_told;
 use poll_set::lock_subscription;
 use right_rules::refused;
 
@@ -42,7 +43,7 @@ impl Kernel {
         let mut told = Told::new();
         let own = self.processes.get_mut(u64::from(who.pid.0));
         let answer = own.unlock(who.tid, lock, word, &mut told);
-        look_again(&mut self.channels, who.pid, &told);
+        touch_told(&mut self.waits, who.pid, &told);
         answer
     }
 
@@ -55,7 +56,7 @@ impl Kernel {
         let mut told = Told::new();
         let own = self.processes.get_mut(u64::from(who.pid.0));
         let answer = own.signal(condvar, n, &mut told);
-        look_again(&mut self.channels, who.pid, &told);
+        touch_told(&mut self.waits, who.pid, &told);
         answer
     }
 
@@ -71,7 +72,7 @@ impl Kernel {
         let mut told = Told::new();
         let own = self.processes.get_mut(u64::from(who.pid.0));
         let answer = own.lock_poll(who, first, &mut told);
-        look_again(&mut self.channels, who.pid, &told);
+        touch_told(&mut self.waits, who.pid, &told);
         answer
     }
 
@@ -103,7 +104,9 @@ impl Kernel {
         ensures exact { LacksNoMemory constants.now self.old who.now call.now result self.new }
         ensures valid { IsValid self.old }
     {
+        let before = self.clock;
         self.clock += STEP_TIME;
+        touch_time(&mut self.waits, before, self.clock);
         if let Some(reply) = self.refusal_of(who.pid, call) {
             return Answer::Reply(reply);
         }
@@ -131,7 +134,9 @@ impl Kernel {
         ensures valid { IsValid self.old }
     {
         let Ok(copy) = call.copy() else {
+            let before = self.clock;
             self.clock += STEP_TIME;
+            touch_time(&mut self.waits, before, self.clock);
             return match self.refusal_of(who.pid, call) {
                 Some(reply) => Answer::Reply(reply),
                 None => Answer::Reply(refused(Errno::Nomem)),

@@ -10,6 +10,7 @@ ghost use Rattle.kernel_model.specs.Calls.{takes_memory};
 ghost use Rattle.kernel_model.specs.State.{Table};
 
 use crate::kernel::Kernel;
+use crate::readiness::touch_answered;
 use abi_types::{Answer, Constants, Errno, OffsetCall, OpenKind, Pid};
 use channel_calls::on_end;
 use fd_calls::at_offset;
@@ -32,6 +33,7 @@ impl Kernel {
             kind,
             call,
         )?;
+        touch_answered(&mut self.waits, kind, &answer);
         release(
             &mut self.objects,
             &mut self.tree,
@@ -39,6 +41,7 @@ impl Kernel {
             &mut self.processes,
             &mut self.statuses,
             &mut self.channels,
+            &mut self.waits,
         );
         Ok(answer)
     }

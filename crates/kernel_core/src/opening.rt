@@ -8,6 +8,7 @@ ghost use Rattle.kernel_model.specs.Outcome.{replies};
 ghost use Rattle.kernel_model.specs.State.{Table};
 
 use crate::kernel::Kernel;
+use crate::readiness::touch_number_of;
 use abi_types::{Answer, Constants, Errno, ObjId, OpenCall, Pid, Reply};
 use entry_calls::plan_open;
 use file_calls::reply_of;
@@ -81,6 +82,7 @@ impl Kernel {
             now,
         )?;
         self.processes.get_mut(p).make(opening.plan.new_nodes() + 1);
+        touch_number_of(&mut self.waits, &self.processes, pid, opening.fd);
         Ok(Answer::Reply(success(u64::from(opening.fd), 0)))
     }
 }

@@ -19,7 +19,7 @@ use crate::kernel::Kernel;
 use abi_base::MOST_DESCRIPTORS;
 use abi_types::{Answer, Constants, Errno, Payload, Pid, Reply, Tid, Who};
 use fd_table::FdTable;
-use kernel_parts::{ProcessState, open_of, release, wake_waiting};
+use kernel_parts::{ProcessState, keep_thread, open_of, release, touch_numbers};
 use lists::Bytes;
 use process_calls::{check_program, program_of, put_table};
 use right_rules::{refused, success_with};
@@ -146,8 +146,9 @@ impl Kernel {
             → self.new ≡ release (put_all (begun_updates pid tid own table) self.old) }
     {
         let p = u64::from(pid.0);
+        keep_thread(&mut self.waits, pid, tid);
+        touch_numbers(&mut self.waits, pid);
         let own = self.processes.get_mut(p);
-        wake_waiting(&mut self.channels, pid, own);
         own.begin_anew(tid);
         put_table(self.tables.get_mut(p), &mut self.objects, table);
         release(
@@ -157,6 +158,7 @@ impl Kernel {
             &mut self.processes,
             &mut self.statuses,
             &mut self.channels,
+            &mut self.waits,
         );
     }
 

@@ -9,6 +9,7 @@ ghost use Rattle.kernel_model.specs.State.{Table};
 ghost use Rattle.kernel_parts.specs.Waiting.{fd_of_socket};
 
 use crate::kernel::Kernel;
+use crate::readiness::{touch_answered, touch_received};
 use abi_types::{Answer, Errno, Pid, SocketCall};
 use channel_calls::on_socket;
 use kernel_parts::{open_of, release, socket_fd};
@@ -40,6 +41,8 @@ impl Kernel {
             &kind,
             call,
         )?;
+        touch_answered(&mut self.waits, &kind, &answer);
+        touch_received(&mut self.waits, pid, &answer);
         release(
             &mut self.objects,
             &mut self.tree,
@@ -47,6 +50,7 @@ impl Kernel {
             &mut self.processes,
             &mut self.statuses,
             &mut self.channels,
+            &mut self.waits,
         );
         Ok(answer)
     }

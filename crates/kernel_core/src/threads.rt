@@ -10,9 +10,10 @@ ghost use Rattle.kernel_model.specs.State.{put_all};
 ghost use Rattle.kernel_model.specs.Valid.{IsValid};
 
 use crate::kernel::Kernel;
+use crate::readiness::end_entry;
 use abi_types::{Answer, Errno, Pid, Reply, Status, Tid, Who, WordWrite, WordWrites};
 use guest_locks::Told;
-use kernel_parts::look_again;
+use kernel_parts::touch_told;
 use right_rules::{refused, success};
 use std::alloc::AllocError;
 
@@ -24,7 +25,7 @@ impl Kernel {
             self.old self.new result }
     {
         let own = self.processes.get_mut(u64::from(who.pid.0));
-        own.make_thread(who.tid)
+        own.make_thread(&mut self.waits, who.pid, who.tid)
     }
 
     // Whether the process has no thread but this one.
@@ -47,6 +48,7 @@ impl Kernel {
         } else {
             let own = self.processes.get_mut(u64::from(pid.0));
             own.end_thread(tid);
+            end_entry(&mut self.waits, pid, tid.0);
         }
     }
 
@@ -58,7 +60,7 @@ impl Kernel {
         let mut told = Told::new();
         let own = self.processes.get_mut(u64::from(who.pid.0));
         let left = own.release_lock(who.tid, lock, word, &mut told);
-        look_again(&mut self.channels, who.pid, &told);
+        touch_told(&mut self.waits, who.pid, &told);
         left
     }
 

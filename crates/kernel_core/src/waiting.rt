@@ -1,26 +1,28 @@
 //! Threads that wait in calls: how they begin to, their wakes, and the jumps of time where nothing else can happen.
-ghost use Rattle.std.specs.Prelude.{◌≡◌, ◌≢◌, ◌^◌, ◌<◌, ◌≤◌, ◌↔◌, ℕ, Some, IsSome, IfOk, OnOk, OnErr, IsTrue, IsFalse, false, true, option_copied};
+ghost use Rattle.std.specs.Prelude.{◌≡◌, ◌≢◌, ◌^◌, ◌<◌, ◌≤◌, ◌↔◌, ℕ, ⊤, Some, IsSome, IfOk, OnOk, OnErr, IsTrue, IsFalse, false, true, option_copied};
+ghost use Rattle.abi_types.specs.declared.constants.Constants.{Constants};
 ghost use Rattle.abi_types.specs.declared.reply.Answer.TheVariants as answer;
 ghost use Rattle.abi_types.specs.declared.wake.WakeIn.TheVariants as wake;
-ghost use Rattle.kernel_core.specs.Waiting.{call_ahead, kept_call, waiter, IfDone, IfNoMemory, IfNotReady, ThreadsDo};
+ghost use Rattle.kernel_core.specs.Waiting.{call_ahead, kept_call, wait_in, waiter, IfDone, IfNoMemory, IfNotReady, ThreadsDo};
 ghost use Rattle.kernel_model.specs.Calls.{meaning_of};
-ghost use Rattle.kernel_model.specs.Deadlines.{idle_state};
+ghost use Rattle.kernel_model.specs.Deadlines.{idle_state, least_deadline};
 ghost use Rattle.kernel_model.specs.Outcome.{is_parked};
 ghost use Rattle.kernel_model.specs.State.{Part, Agree, thread_of};
 ghost use Rattle.kernel_model.specs.Step.{step_answer, tick, IsStep, IsUntouched};
 ghost use Rattle.kernel_model.specs.Valid.{IsValid};
-ghost use Rattle.kernel_model.specs.Waits.{may_wait, resumed, waiting, with_thread, WaitsIn};
+ghost use Rattle.kernel_model.specs.Waits.{may_wait, resumed, waiting, with_thread, HasDeadlines, WaitsIn};
 ghost use Rattle.kernel_model.specs.Wakes.{is_ready, woken, IsStalled, IsWake, LacksNoMemory, MayJump};
+ghost use Rattle.kernel_parts.specs.Activity.{IsActivity};
 ghost use Rattle.kernel_parts.specs.Waiting.{kept_in};
 
 use crate::kernel::{Kernel, STEP_TIME};
 use crate::locks::may_queue;
+use crate::readiness::{clear_entry, stand, touch_time};
 use abi_types::{
     Answer, Call, Constants, Errno, Pid, Reply, Stage, Thread, Tid, TryClone, WakeIn, Who,
 };
-use channel_calls::ThreadOf;
 use guest_locks::set_word;
-use kernel_parts::{Activity, goes_on, next_number, note_wait};
+use kernel_parts::{Activity, goes_on, next_number, thread_key};
 use poll_set::{Surroundings, lock_subscription};
 use right_rules::refused;
 use std::alloc::AllocError;
@@ -46,9 +48,17 @@ impl Kernel {
         let now = self.clock;
         let own = self.processes.get_mut(u64::from(who.pid.0));
         own.park(constants, who, now, kept);
+        stand(
+            &mut self.waits,
+            self.alloc,
+            &self.objects,
+            &self.tables,
+            &self.processes,
+            thread_key(who.pid, who.tid),
+        );
     }
 
-    // The same in a copy of the call, and its thread is noted wherever something may come that it waits for. `Err` changes nothing.
+    // The same in a copy of the call. `Err` changes nothing.
     pub(crate) fn park(
         &mut self,
         constants: &Constants,
@@ -62,30 +72,7 @@ impl Kernel {
     {
         let kept = call.copy()?;
         self.begin_wait(constants, who, kept);
-        self.note(who.pid, who.tid);
         Ok(())
-    }
-
-    // Notes a thread nowhere any more.
-    fn forget(&mut self, pid: Pid, tid: Tid)
-        ensures { self.new ≡ self.old }
-    {
-        self.channels.forget(&ThreadOf { pid, tid });
-    }
-
-    // Notes a thread that waits wherever something may come that it waits for, and nowhere else: then it is to be looked at again.
-    fn note(&mut self, pid: Pid, tid: Tid)
-        ensures { self.new ≡ self.old }
-    {
-        self.forget(pid, tid);
-        let p = u64::from(pid.0);
-        let (Some(own), Some(table)) = (self.processes.get(p), self.tables.get(p)) else {
-            return;
-        };
-        if let Some(Thread::Waits { call, .. }) = own.thread(tid) {
-            let thread = ThreadOf { pid, tid };
-            note_wait(&mut self.channels, &self.objects, table, &thread, call);
-        }
     }
 
     // What calls that wait look at beside their process's descriptors.
@@ -106,8 +93,8 @@ impl Kernel {
     }
 
     // Lets a thread run that waits, and gives back the call that it waited in, when that was made, and how far its wait had come. `None`
-    // exactly where the thread doesn't wait; then nothing changes.
-    fn let_run(&mut self, pid: Pid, tid: Tid) -> Option<(Call, u64, Stage)>
+    // exactly where the thread doesn't wait; then the state is the same. It stands nowhere from here on.
+    fn resume(&mut self, pid: Pid, tid: Tid) -> Option<(Call, u64, Stage)>
         ensures kept { result ≡ kept_in (thread_of self.old pid tid) }
         ensures runs { self.new ≡ with_thread self.old pid tid Thread.Runnable }
     {
@@ -115,16 +102,9 @@ impl Kernel {
         if !self.processes.contains(p) {
             return None;
         }
-        self.processes.get_mut(p).resume(tid)
-    }
-
-    // The same of a thread that is noted nowhere any more then.
-    fn resume(&mut self, pid: Pid, tid: Tid) -> Option<(Call, u64, Stage)>
-        ensures kept { result ≡ kept_in (thread_of self.old pid tid) }
-        ensures runs { self.new ≡ with_thread self.old pid tid Thread.Runnable }
-    {
-        self.forget(pid, tid);
-        self.let_run(pid, tid)
+        let resumed = self.processes.get_mut(p).resume(tid);
+        clear_entry(&mut self.waits, thread_key(pid, tid));
+        resumed
     }
 
     /// The call that a thread waits in. `None` exactly where there is no such live thread, or it doesn't wait.
@@ -223,7 +203,6 @@ impl Kernel {
             → self.new ≡ tick (with_thread self.old pid tid Thread.Runnable)) }
     {
         if !self.is_ready(constants, pid, tid) {
-            self.note(pid, tid);
             return Woken::NotReady;
         }
         match given {
@@ -231,7 +210,9 @@ impl Kernel {
                 let Some((call, _, _)) = self.resume(pid, tid) else {
                     return Woken::NotReady;
                 };
+                let before = self.clock;
                 self.clock += STEP_TIME;
+                touch_time(&mut self.waits, before, self.clock);
                 let answer = Answer::Reply(refused(Errno::Fault));
                 Woken::Done { call, answer }
             }
@@ -288,7 +269,9 @@ impl Kernel {
                     return false;
                 };
                 let soonest = self.clock + STEP_TIME;
+                let before = self.clock;
                 self.clock = if soonest < until { until } else { soonest };
+                touch_time(&mut self.waits, before, self.clock);
                 true
             }
             _ => false,
@@ -303,6 +286,34 @@ impl Kernel {
         match self.activity(constants) {
             Activity::Waiting { until } => until.is_none(),
             _ => false,
+        }
+    }
+
+    // Until when the threads of all processes wait, whether they go on now or not. Looks at each thread.
+    fn waiting(&self) -> Activity
+        ensures { IsActivity (wait_in self.now) (λ _. ⊤) result }
+    {
+        let mut found = Activity::NoThread;
+        let mut last = None;
+        while let Some(p) = next_number(&self.processes, last) {
+            if let Some(own) = self.processes.get(p) {
+                found = found.with(own.waiting());
+            }
+            last = Some(p);
+        }
+        found
+    }
+
+    /// The least deadline, if a thread has one, whether it goes on now or not. Looks at each thread only where memory lacked as one began to wait.
+    pub fn next_deadline(&self) -> Option<u64>
+        ensures { (constants : Constants) → HasDeadlines constants self.now → result ≡ least_deadline self.now }
+    {
+        let Some(_) = self.waits.next_everywhere(None) else {
+            return self.waits.next_moment(None);
+        };
+        match self.waiting() {
+            Activity::Waiting { until } => until,
+            _ => None,
         }
     }
 }

@@ -133,7 +133,7 @@ abbrev pub passed : Option ℕ → ℕ
 passed None = 0
 passed (Some last) = last + 1
 
-above_or_past : (last : Option ℕ) (k : ℕ) → (is_above last k ≡ true) ⊎ IsPast last k
+pub above_or_past : (last : Option ℕ) (k : ℕ) → (is_above last k ≡ true) ⊎ IsPast last k
 above_or_past None k = inl refl
 above_or_past (Some last) k =
     elim (nat_lt last k) as (λ b. nat_lt last k ≡ b → (nat_lt last k ≡ true) ⊎ (k ≤ last)) [
@@ -159,7 +159,7 @@ module _ {X : Type 0} (m : FinMap nat_cmp X) (last : Option ℕ) where
   passes_by (Some x) k above = inr above
 
   -- there is no next number
-  past_all : None ≡ least_key (λ q _. is_above last q) m → (k : ℕ) → IsPast last k ⊎ (get m k ≡ None)
+  pub past_all : None ≡ least_key (λ q _. is_above last q) m → (k : ℕ) → IsPast last k ⊎ (get m k ≡ None)
   past_all none k =
       elim (above_or_past last k) [
         | inl above ↦ inr (absent_by (get m k) k above (least_key-none (λ q _. is_above last q) m (sym none) k))
@@ -174,7 +174,7 @@ module _ {X : Type 0} (m : FinMap nat_cmp X) (last : Option ℕ) where
     pub next_above : passed last ≤ n
     next_above = above_passed last n (least_key-entry (λ q _. is_above last q) m n (sym next)).2
 
-    past_next : (k : ℕ) → k ≤ n → IsPast last k ⊎ (k ≡ n) ⊎ (get m k ≡ None)
+    pub past_next : (k : ℕ) → k ≤ n → IsPast last k ⊎ (k ≡ n) ⊎ (get m k ≡ None)
     past_next k most =
         elim (above_or_past last k) [
           | inl above ↦ elim (passes_by (get m k) k above) [

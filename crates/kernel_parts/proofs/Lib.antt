@@ -16,3 +16,9 @@ pub mod OwnCalls
 pub mod Holding
 pub mod FewThreads
 pub mod LockAnswers
+pub mod Touched
+pub mod ThreadKeys
+pub mod LeftEntries
+pub mod Concerned
+pub mod Looks
+pub mod NewEntries

@@ -33,6 +33,21 @@ activity_by constants opens channels statuses now table (Some thread) = activity
 abbrev pub activity_at : Constants → FinMap nat_cmp OpenKind → FinMap nat_cmp Channel → FinMap nat_cmp Status → ℕ → Option Table → Threads → ℕ → Activity
 activity_at constants opens channels statuses now table threads t = activity_by constants opens channels statuses now table (get threads t)
 
+-- ---- whether it goes on or not
+
+-- until when a thread waits, as if none went on; one that runs counts for none
+abbrev pub wait_of : Thread → Activity
+wait_of Runnable = NoThread
+wait_of (Waits call since until stage) = Waiting (soon until)
+
+abbrev pub wait_by : Option Thread → Activity
+wait_by None = NoThread
+wait_by (Some thread) = wait_of thread
+
+-- the same of the thread with this number, if there is one
+abbrev pub wait_at : Threads → ℕ → Activity
+wait_at threads t = wait_by (get threads t)
+
 -- ---- of several threads
 
 -- what those do together that do this and that

@@ -1,6 +1,6 @@
 //! What threads do, taken together.
 ghost use Rattle.std.specs.Prelude.{◌≡◌, option_copied};
-ghost use Rattle.kernel_parts.specs.Activity.{activity_of, both};
+ghost use Rattle.kernel_parts.specs.Activity.{activity_of, both, wait_of};
 
 use crate::waiting::goes_on;
 use abi_types::Thread;
@@ -60,6 +60,18 @@ impl Activity {
                     }
                 }
             }
+        }
+    }
+
+    /// Until when one thread waits, whether it goes on now or not. One that runs counts for none.
+    pub(crate) fn wait_of(thread: &Thread) -> Activity
+        ensures { result ≡ wait_of thread.now }
+    {
+        match thread {
+            Thread::Runnable => Activity::NoThread,
+            Thread::Waits { until, .. } => Activity::Waiting {
+                until: soon(*until),
+            },
         }
     }
 }

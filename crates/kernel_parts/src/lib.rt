@@ -4,9 +4,9 @@
 
 pub use activity::Activity;
 pub use clocks::{CLOCK_RESOLUTION, time_of};
-pub use ended_threads::{wake_at_end, wake_waiting};
 pub use entries::{Caller, EntryReply, change_entries};
-pub use notes::note_wait;
+pub use keys::{end_key, thread_key, thread_of_key};
+pub use notes::wait_spots;
 pub use numbers::next_number;
 pub use opens::{Opening, add_open, kind_of, open_of, put_opening};
 pub use places::placed;
@@ -17,13 +17,15 @@ pub use stream_calls::on_stream;
 pub use table::{hold_all, let_go_all};
 pub use table_change::change_table;
 pub use terminal::Terminal;
-pub use told::look_again;
+pub use touching::{
+    ensure_entry, keep_thread, touch_end, touch_ended, touch_number, touch_numbers, touch_told,
+};
 pub use waiting::{deadline_of, goes_on, socket_fd};
 
 mod activity;
 mod clocks;
-mod ended_threads;
 mod entries;
+mod keys;
 mod locks;
 mod notes;
 mod numbers;
@@ -36,5 +38,5 @@ mod stream_calls;
 mod table;
 mod table_change;
 mod terminal;
-mod told;
+mod touching;
 mod waiting;

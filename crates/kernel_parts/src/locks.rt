@@ -1,6 +1,7 @@
 //! Calls on locks and condition variables, and polls of them.
 ghost use Rattle.std.specs.Prelude.{◌≡◌, ℕ, Some, IsSome};
 ghost use Rattle.std.specs.FinMap as map;
+ghost use Rattle.guest_locks.specs.Told.{TellsOf};
 ghost use Rattle.guest_locks.specs.Words.{taking_in};
 ghost use Rattle.kernel_model.specs.Families.LockCalls as model;
 ghost use Rattle.kernel_model.specs.Families.LockWords.{holding_of};
@@ -79,13 +80,15 @@ impl ProcessState {
     pub fn release_lock(&mut self, tid: Tid, lock: u64, word: u32, told: &mut Told) -> Option<u32>
         ensures own { self.new ≡ unlocked_own lock word tid self.old }
         ensures word { result ≡ released_word (release_of tid word) lock self.old.threads }
+        ensures told { TellsOf self.old.threads self.new.threads told.old told.new }
     {
         unlock(&mut self.threads, tid, lock, word, told)
     }
 
     /// lock_unlock of the lock at this address, whose word is this.
     pub fn unlock(&mut self, tid: Tid, lock: u64, word: u32, told: &mut Told) -> Answer
-        ensures { (p : ℕ) → IsOwnStep self.old self.new result (model.unlock_in p tid lock word (Some self.old)) }
+        ensures step { (p : ℕ) → IsOwnStep self.old self.new result (model.unlock_in p tid lock word (Some self.old)) }
+        ensures told { TellsOf self.old.threads self.new.threads told.old told.new }
     {
         match self.release_lock(tid, lock, word, told) {
             Some(left) => Answer::Reply(word_reply(lock, left)),
@@ -95,7 +98,8 @@ impl ProcessState {
 
     /// condvar_signal of the condition variable at this address: so many of the threads that wait there are signalled, and told of.
     pub fn signal(&mut self, condvar: u64, n: u32, told: &mut Told) -> Answer
-        ensures { (p : ℕ) → IsOwnStep self.old self.new result (model.signal_in p condvar n (Some self.old)) }
+        ensures step { (p : ℕ) → IsOwnStep self.old self.new result (model.signal_in p condvar n (Some self.old)) }
+        ensures told { TellsOf self.old.threads self.new.threads told.old told.new }
     {
         let word = signal(&mut self.threads, condvar, n, told);
         Answer::Reply(word_reply(condvar, word))
@@ -154,7 +158,8 @@ impl ProcessState {
         word: u32,
         told: &mut Told,
     ) -> Answer
-        ensures { (p : ℕ) → IsOwnStep self.old self.new result (model.sleeps_if (is_written_by tid (holding_of word)) first.now.userdata first.now.what p condvar lock (Some self.old)) }
+        ensures step { (p : ℕ) → IsOwnStep self.old self.new result (model.sleeps_if (is_written_by tid (holding_of word)) first.now.userdata first.now.what p condvar lock (Some self.old)) }
+        ensures told { TellsOf self.old.threads self.new.threads told.old told.new }
     {
         if !is_written_by(tid, word) {
             return tells(first, Errno::Perm, WordWrites::Zero);
@@ -175,7 +180,8 @@ impl ProcessState {
     /// of.
     pub fn lock_poll(&mut self, who: &Who, first: &Subscription, told: &mut Told) -> Answer
         requires there { IsSome (map.get self.old.threads who.now.tid) }
-        ensures { (p : ℕ) → IsOwnStep self.old self.new result (model.waited_outcome first.now.userdata first.now.what p who.now.tid who.now.stage (Some self.old)) }
+        ensures step { (p : ℕ) → IsOwnStep self.old self.new result (model.waited_outcome first.now.userdata first.now.what p who.now.tid who.now.stage (Some self.old)) }
+        ensures told { TellsOf self.old.threads self.new.threads told.old told.new }
     {
         match first.what {
             What::LockRdlock { lock, word, .. } => self.lock_answer(who, first, true, lock, word),

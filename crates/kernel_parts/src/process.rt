@@ -1,9 +1,10 @@
 //! What the kernel keeps of a process beside its descriptors and its status.
 ghost use Rattle.std.specs.Prelude.{true, is_some, ◌≡◌, ◌+◌, ◌<◌, ◌^◌, ℕ, ⊤, IfOk, OnErr, IfSome, IsSome, Some, option_copied};
 ghost use Rattle.std.specs.FinMap as map;
-ghost use Rattle.kernel_parts.specs.Activity.{activity_at, IsActivity};
+ghost use Rattle.kernel_parts.specs.Activity.{activity_at, wait_at, IsActivity};
 ghost use Rattle.kernel_parts.specs.Entries.{number_of};
 ghost use Rattle.kernel_parts.specs.OwnCalls.{new_thread, words_after, IsOwnDone};
+ghost use Rattle.kernel_parts.specs.Touching.{IsMade};
 ghost use Rattle.kernel_parts.specs.Waiting.{kept_in};
 ghost use Rattle.clock_random.specs.Random.{random_bytes};
 ghost use Rattle.kernel_model.specs.Families.Children.{byte_unit};
@@ -18,6 +19,7 @@ ghost use Rattle.kernel_model.specs.Waits.{thread_set, waiting};
 use crate::activity::Activity;
 use crate::numbers::next_number;
 use crate::start::{LAUNCH_PROCESS, single};
+use crate::touching::ensure_entry;
 use crate::waiting::deadline_at;
 use abi_types::{
     Answer, Call, Constants, Counts, Errno, MOST_THREADS, ObjId, Payload, Pid, Stage, Thread, Tid,
@@ -32,6 +34,7 @@ use poll_set::Surroundings;
 use right_rules::{refused, success, success_with};
 use std::alloc::{AllocError, Global};
 use std::marker::Model;
+use wait_set::WaitSet;
 
 // Each thread's number is less than this one, so that the words of locks have room for it.
 const THREAD_LIMIT: u32 = (1 << 30) - 1;
@@ -145,13 +148,20 @@ impl ProcessState {
     }
 
     /// Makes a thread, which runs, for the thread `tid` of the process: its number is the first result. `Err` comes only where there
-    /// is a number for it, and changes nothing.
-    pub fn make_thread(&mut self, tid: Tid) -> Result<Answer, AllocError>
-        ensures { (p : ℕ) → IsOwnDone (made_in p tid (Some self.old)) self.old self.new result }
+    /// is a number for it, and changes nothing. It has an entry among those of process `pid` that may wait.
+    pub fn make_thread(
+        &mut self,
+        waits: &mut WaitSet,
+        pid: Pid,
+        tid: Tid,
+    ) -> Result<Answer, AllocError>
+        ensures done { (p : ℕ) → IsOwnDone (made_in p tid (Some self.old)) self.old self.new result }
+        ensures entry { IsMade pid self.old.threads self.new.threads waits.old waits.new }
     {
         let Some(number) = self.new_thread(tid) else {
             return Ok(Answer::Reply(refused(Errno::Again)));
         };
+        ensure_entry(waits, pid, Tid(number))?;
         let key = u64::from(number);
         self.threads.insert(key, Thread::Runnable)?;
         self.counts.threads = number;
@@ -332,6 +342,21 @@ impl ProcessState {
         while let Some(tid) = next_number(&self.threads, last) {
             if let Some(thread) = self.threads.get(tid) {
                 found = found.with(Activity::of_thread(around, table, thread));
+            }
+            last = Some(tid);
+        }
+        found
+    }
+
+    /// Until when the threads wait, whether they go on now or not. Those that run count for none. Looks at each thread.
+    pub fn waiting(&self) -> Activity
+        ensures { IsActivity (wait_at self.now.threads) (λ _. ⊤) result }
+    {
+        let mut found = Activity::NoThread;
+        let mut last = None;
+        while let Some(tid) = next_number(&self.threads, last) {
+            if let Some(thread) = self.threads.get(tid) {
+                found = found.with(Activity::wait_of(thread));
             }
             last = Some(tid);
         }

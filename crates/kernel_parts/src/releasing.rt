@@ -1,24 +1,29 @@
 //! What ends because nothing holds it, and the nodes of the file tree that go with it.
 ghost use Rattle.std.specs.Prelude.{◌≡◌, ◌≤◌, ◌⊎◌, ◌+◌, ℕ, None, Some, IsSome, is_some, true, false};
 ghost use Rattle.std.specs.FinMap as map;
+ghost use Rattle.std.specs.Ordering.{nat_cmp};
 ghost use Rattle.channel_calls.specs.Calls.{AllGoOn, AreFew, carriers_in};
+ghost use Rattle.kernel_model.specs.Channels.{Channel};
 ghost use Rattle.kernel_model.specs.Release.{count_in, lives, release};
 ghost use Rattle.kernel_parts.specs.Released.{IsKilledIn, state_by};
+ghost use Rattle.kernel_parts.specs.Touched.{IsTouched};
+ghost use Rattle.kernel_parts.specs.Touching.{HasNoLast};
 ghost use Rattle.maps.specs.Maps.{number, total};
 ghost use Rattle.tree_model.specs.Changes.{forgotten};
 ghost use Rattle.tree_model.specs.Opens.{is_used};
 ghost use Rattle.tree_model.specs.Retained.{retained};
 ghost use Rattle.tree_model.specs.Tree.{IsTree};
 
-use crate::ended_threads::wake_at_end;
 use crate::process::ProcessState;
 use crate::table::let_go_all;
+use crate::touching::{touch_end, touch_ended};
 use abi_types::{ObjId, OpenKind, Pid, Signal, Status};
 use channel_calls::{Channels, leave};
 use fd_table::FdTable;
 use file_tree::Tree;
 use maps::NumMap;
 use object_store::{Objects, node_of};
+use wait_set::WaitSet;
 
 // Lets a node go that has neither a name nor an open.
 fn forget_unused(tree: &mut Tree, objects: &Objects, node: ObjId)
@@ -42,15 +47,14 @@ fn is_alive(status: Option<Status>) -> bool
     matches!(status, Some(Status::Live))
 }
 
-// Kills a process, where it lives: it has no descriptor and no thread left. Those that wait are to be looked at again, and those that wait
-// for its end.
+// Kills a process, where it lives: it has no descriptor and no thread left, and none that waits. Those that wait for its end are left.
 fn kill(
     pid: Pid,
     objects: &mut Objects,
     tables: &mut NumMap<FdTable>,
     processes: &mut NumMap<ProcessState>,
     statuses: &mut NumMap<Status>,
-    channels: &mut Channels,
+    waits: &mut WaitSet,
 )
     requires covered { (o : ℕ) → total (count_in o) tables.old ≤ number (map.get objects.old.counts o) }
     requires tables { (p : ℕ) → is_some (map.get tables.old p) ≡ is_some (map.get statuses.old p) }
@@ -58,13 +62,13 @@ fn kill(
     ensures kinds { objects.new.kinds ≡ objects.old.kinds }
     ensures counts { (o : ℕ) → number (map.get objects.new.counts o) + total (count_in o) tables.old ≡ number (map.get objects.old.counts o) + total (count_in o) tables.new }
     ensures parts { IsKilledIn pid tables.old processes.old statuses.old tables.new processes.new statuses.new }
-    ensures channels { channels.new ≡ channels.old }
+    ensures touched { (channels : map.FinMap nat_cmp Channel) (tree : Tree) → HasNoLast waits.old → IsTouched (state_by tables.old processes.old statuses.old objects.old.kinds channels tree) (state_by tables.new processes.new statuses.new objects.new.kinds channels tree) waits.old waits.new }
 {
     let p = u64::from(pid.0);
     if is_alive(statuses.get(p).copied()) {
         statuses.replace(p, Status::Killed(Signal::Kill));
+        touch_ended(waits, pid);
         let own = processes.get_mut(p);
-        wake_at_end(channels, pid, own);
         own.end();
         let_go_all(tables.get_mut(p), objects);
     }
@@ -73,6 +77,9 @@ fn kill(
 /// Takes each open away that nothing holds, with each open of a process that lives the process, with each end of a channel what waited
 /// in the channel that it read, each channel that has lost both ends, and each node that then has neither a name nor an open. Looks at
 /// no open that is held, at no channel but those of the ends that end, and at no node but those of the opens that do. Takes no memory.
+///
+/// `touched`: of the threads that wait those are left that stand at a channel which changes, or at the end of a process that is killed, and
+/// those of such a process wait no longer.
 pub fn release(
     objects: &mut Objects,
     tree: &mut Tree,
@@ -80,6 +87,7 @@ pub fn release(
     processes: &mut NumMap<ProcessState>,
     statuses: &mut NumMap<Status>,
     channels: &mut Channels,
+    waits: &mut WaitSet,
 )
     requires tree { IsTree tree.old }
     requires used { (n : ℕ) → IsSome (map.get tree.old.nodes n) → is_used objects.old.kinds tree.old n ≡ true }
@@ -90,13 +98,17 @@ pub fn release(
     ensures state { state_by tables.new processes.new statuses.new objects.new.kinds channels.new tree.new ≡ release (state_by tables.old processes.old statuses.old objects.old.kinds channels.old tree.old) }
     ensures counted { (o : ℕ) → number (map.get objects.new.counts o) ≡ total (count_in o) tables.new + carriers_in o channels.new }
     ensures few { AreFew channels.old → AreFew channels.new }
+    ensures touched { HasNoLast waits.old → IsTouched (state_by tables.old processes.old statuses.old objects.old.kinds channels.old tree.old) (state_by tables.new processes.new statuses.new objects.new.kinds channels.new tree.new) waits.old waits.new }
 {
     while let Some((_, kind)) = objects.pop_unheld() {
         match kind {
             OpenKind::Process { pid, .. } => {
-                kill(pid, objects, tables, processes, statuses, channels);
+                kill(pid, objects, tables, processes, statuses, waits);
             }
-            OpenKind::End { .. } => leave(objects, channels, &kind),
+            OpenKind::End { .. } => {
+                touch_end(waits, &kind);
+                leave(objects, channels, &kind);
+            }
             _ => {
                 if let Some(node) = node_of(&kind) {
                     forget_unused(tree, objects, node);

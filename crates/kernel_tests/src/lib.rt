@@ -1,7 +1,9 @@
 //! Tests of the kernel where the built command can't show it: what calls need, how processes end, reports of entries that no run has,
-//! number maps and the queue of tickets.
+//! number maps, the queue of tickets and the board.
 #![tactic(auto)]
 
+#[cfg(test)]
+mod boards;
 #[cfg(test)]
 mod kernel_ends;
 #[cfg(test)]
@@ -14,3 +16,5 @@ mod queues;
 mod reports;
 #[cfg(test)]
 mod stdout_kernel;
+#[cfg(test)]
+mod tickets;

@@ -1,63 +1,29 @@
 //! The queue of tickets, step by step.
-ghost use Rattle.std.specs.Prelude.{◌≡◌};
-
-use abi_base::{Pid, Tid};
+use crate::tickets::{Named, ticket};
+use abi_base::Pid;
 use std::alloc::{AllocError, Global};
 use std::test::Fail;
 use turn_queue::{Queue, Ticket};
-
-// A ticket of a thread, under a name.
-#[derive(Clone, Copy, Drop)]
-struct Named {
-    pid: Pid,
-    tid: Tid,
-    name: char,
-}
-
-impl Ticket for Named {
-    ghost process = { λ ticket. ticket.pid };
-
-    ghost thread = { λ ticket. ticket.tid };
-
-    fn pid(&self) -> Pid {
-        self.pid
-    }
-
-    fn tid(&self) -> Tid {
-        self.tid
-    }
-}
-
-// The ticket of this name. Those of a and b are of one process, and those of a and c of threads of one number.
-fn ticket(name: char) -> Named {
-    let (pid, tid) = match name {
-        'a' => (Pid(0), Tid(1)),
-        'b' => (Pid(0), Tid(2)),
-        _ => (Pid(7), Tid(1)),
-    };
-    Named { pid, tid, name }
-}
 
 // A step of a queue with a ticket, which is told by its name, and its answer.
 #[derive(Clone, Copy)]
 enum Step {
     Put(char),
     Park(char),
-    ParkUntil(char, u64),
     Take(Option<char>),
     // Of those whose process is none of these.
     TakeFree(&'static [u32], Option<char>),
     // Of the thread that has the ticket.
+    TakeParked(char, bool),
     Revive(char, bool),
-    ReviveAll,
-    // Of the threads whose moment has come by this one.
-    ReviveDue(u64),
+    // Whether one is parked whose process is none of these.
+    HasParked(&'static [u32], bool),
 }
 
 // More tickets than any of these queues has.
 const MANY: usize = 8;
 
-// The steps of a queue, in their order, and the names of the tickets that are then ready and parked, longest first.
+// The steps of a queue, in their order; the names of the tickets that are then ready, longest first; and of those that are parked.
 struct Case {
     steps: &'static [Step],
     ready: &'static str,
@@ -69,7 +35,8 @@ const CASES: &[Case] = &[
         steps: &[
             Step::Take(None),
             Step::Revive('a', false),
-            Step::ReviveAll,
+            Step::TakeParked('a', false),
+            Step::HasParked(&[], false),
             Step::Take(None),
         ],
         ready: "",
@@ -81,6 +48,7 @@ const CASES: &[Case] = &[
             Step::Put('b'),
             Step::Put('c'),
             Step::Revive('b', false),
+            Step::TakeParked('c', false),
             Step::Take(Some('a')),
         ],
         ready: "bc",
@@ -112,13 +80,17 @@ const CASES: &[Case] = &[
     },
     Case {
         steps: &[
+            Step::Park('e'),
             Step::Park('a'),
+            Step::Park('d'),
             Step::Park('b'),
             Step::Park('c'),
             Step::Take(None),
+            Step::TakeParked('d', true),
+            Step::TakeParked('d', false),
         ],
         ready: "",
-        parked: "abc",
+        parked: "abce",
     },
     Case {
         steps: &[
@@ -139,55 +111,32 @@ const CASES: &[Case] = &[
     },
     Case {
         steps: &[
-            Step::Park('a'),
-            Step::Park('b'),
-            Step::Park('c'),
-            Step::ReviveAll,
-        ],
-        ready: "abc",
-        parked: "",
-    },
-    Case {
-        steps: &[
             Step::Put('c'),
             Step::Park('b'),
-            Step::Park('a'),
-            Step::ReviveAll,
-            Step::Take(Some('c')),
+            Step::Park('b'),
+            Step::TakeFree(&[7], Some('b')),
         ],
-        ready: "ba",
-        parked: "",
+        ready: "c",
+        parked: "b",
     },
     Case {
         steps: &[
+            Step::Park('a'),
+            Step::Park('b'),
+            Step::HasParked(&[], true),
+            Step::HasParked(&[0], false),
+            Step::HasParked(&[7, 9], true),
             Step::Park('c'),
-            Step::ParkUntil('a', 30),
-            Step::ParkUntil('b', 10),
-            Step::ReviveDue(9),
+            Step::Park('d'),
+            Step::HasParked(&[7], true),
+            Step::HasParked(&[0], true),
+            Step::HasParked(&[7, 0], false),
+            Step::Park('e'),
+            Step::HasParked(&[7, 0], true),
+            Step::HasParked(&[9, 7, 0], false),
         ],
         ready: "",
-        parked: "bac",
-    },
-    Case {
-        steps: &[
-            Step::Put('c'),
-            Step::ParkUntil('a', 10),
-            Step::ParkUntil('b', 10),
-            Step::ParkUntil('c', 11),
-            Step::ReviveDue(10),
-        ],
-        ready: "cab",
-        parked: "c",
-    },
-    Case {
-        steps: &[
-            Step::ParkUntil('c', 20),
-            Step::Park('b'),
-            Step::ParkUntil('a', 0),
-            Step::ReviveDue(30),
-        ],
-        ready: "ac",
-        parked: "b",
+        parked: "abcde",
     },
 ];
 
@@ -200,14 +149,20 @@ fn processes(alloc: Global, numbers: &[u32]) -> Result<Vec<Pid>, AllocError> {
     Ok(pids)
 }
 
+// Takes the parked ticket of the thread that has this one. Whether it is that one.
+fn takes_parked(queue: &mut Queue<Named>, name: char) -> bool {
+    let named = ticket(name);
+    queue
+        .take_parked(named.pid(), named.tid())
+        .map(|ticket| ticket.name)
+        == Some(name)
+}
+
 // Does a step. Whether its answer is the step's.
 fn follow(alloc: Global, queue: &mut Queue<Named>, step: Step) -> Result<bool, AllocError> {
     match step {
         Step::Put(name) => queue.put(ticket(name)).map_err(|_| AllocError)?,
-        Step::Park(name) => queue.park(ticket(name), None).map_err(|_| AllocError)?,
-        Step::ParkUntil(name, until) => queue
-            .park(ticket(name), Some(until))
-            .map_err(|_| AllocError)?,
+        Step::Park(name) => queue.park(ticket(name)).map_err(|_| AllocError)?,
         Step::Take(name) => return Ok(queue.take_free(&[]).map(|ticket| ticket.name) == name),
         Step::TakeFree(busy, name) => {
             let busy = processes(alloc, busy)?;
@@ -215,12 +170,15 @@ fn follow(alloc: Global, queue: &mut Queue<Named>, step: Step) -> Result<bool, A
             let took = queue.take_free(&busy).map(|ticket| ticket.name);
             return Ok(has == name.is_some() && took == name);
         }
+        Step::TakeParked(name, answer) => return Ok(takes_parked(queue, name) == answer),
         Step::Revive(name, answer) => {
-            let Named { pid, tid, .. } = ticket(name);
-            return Ok(queue.revive(pid, tid) == answer);
+            let named = ticket(name);
+            return Ok(queue.revive(named.pid(), named.tid()) == answer);
         }
-        Step::ReviveAll => queue.revive_all(),
-        Step::ReviveDue(now) => queue.revive_due(now),
+        Step::HasParked(busy, answer) => {
+            let busy = processes(alloc, busy)?;
+            return Ok(queue.has_parked(&busy) == answer);
+        }
     }
     Ok(true)
 }
@@ -250,8 +208,9 @@ fn tickets_are_served_in_order(rt: HostRuntime) -> Result<(), Fail> {
         }
         assert_eq!(rt; queue.parked_count(), case.parked.len());
         assert_eq!(rt; taken(rt.alloc(), &mut queue)?.as_str(), case.ready);
-        queue.revive_all();
-        assert_eq!(rt; taken(rt.alloc(), &mut queue)?.as_str(), case.parked);
+        for name in case.parked.chars() {
+            assert!(rt; takes_parked(&mut queue, name), "{name} of {}", case.parked);
+        }
     }
     Ok(())
 }

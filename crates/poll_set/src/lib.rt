@@ -1,11 +1,10 @@
-//! Polls: what a thread waits for, until when, what it is told, and where it is noted so that it is looked at again.
+//! Polls: what a thread waits for, until when, and what it is told.
 //!
 //! A poll looks at its process's descriptors and at [`Surroundings`], and takes memory for the events of its answer alone.
 #![tactic(auto)]
 
 pub use clocks::{is_due, poll_deadline, soon, sooner};
 pub use events::event_of;
-pub use notes::note_poll;
 pub use polls::{poll, poll_waits};
 pub use subscriptions::lock_subscription;
 pub use surroundings::Surroundings;
@@ -13,7 +12,6 @@ pub use surroundings::Surroundings;
 mod clocks;
 mod ends;
 mod events;
-mod notes;
 mod polls;
 mod subscriptions;
 mod surroundings;

@@ -1,7 +1,6 @@
 -- What the kernel tells of what a thread asked for is what contracts see of the process afterwards.
 --     left_after_call, left_by_birth, left_after_wake      the turns that are left
 --     plain_call, plain_wake, plain_end, asked_tells      what contracts see after a call, a wake or an end from outside
---     wait_is_told      the times of a thread that waits
 --     born_some, born_none, none_tells, child_tells      after a proc_fork, without a child and with one
 use Rattle.std.proofs.Common.{◌≡◌, ◌≢◌, ℕ, Bool, true, false, List, [], ◌∷◌, ◌++◌, ◌-◌, Option, None, Some, inl, inr, if◌then◌else◌, refl, sym, ap, subst, ◌∙◌}
 use Rattle.std.specs.FinMap.{get, insert, remove}
@@ -29,7 +28,7 @@ use Rattle.run_model.proofs.Registers.{call_guest}
 use Rattle.run_model.proofs.Worlds.{born_guest}
 use Rattle.shared_history.specs.Entries.{head_of, entry_of, answered_call}
 use Rattle.shared_history.specs.Passes.{IsSeen, Later, Passing}
-use Rattle.kernel_cell.specs.Acting.{AreTold, Became, Entered, HasForked, IsActed, IsForkedOn, IsNotReady, MayCome, TellsTimes, by_number, child_of, going_on}
+use Rattle.kernel_cell.specs.Acting.{Became, Entered, HasForked, IsActed, IsForkedOn, IsNotReady, MayCome, by_number, child_of, going_on}
 use Rattle.kernel_cell.specs.Acting as Acting
 use Rattle.kernel_cell.specs.Afterwards.{act_of}
 use Rattle.kernel_cell.specs.Asking.{Answers, HasNoChild, IsWake}
@@ -45,12 +44,11 @@ use Rattle.kernel_cell.specs.declared.results.Doing.{Doing}
 use Rattle.kernel_cell.specs.declared.results.Doing.TheVariants as doing
 use Rattle.kernel_cell.specs.declared.results.EndBy.{EndBy}
 use Rattle.kernel_cell.specs.declared.results.EndBy.TheVariants as end_by
-use Rattle.kernel_cell.specs.declared.results.Times.{Times}
 use Rattle.kernel_cell.proofs.PassOutcomes.{own_entered}
 use Rattle.process_cell.specs.Phases.{alone, is_yield, phase_after, threads_after}
 use Rattle.process_cell.specs.Process.{Stands, standing_of}
 use Rattle.process_cell.specs.Standing.{Standing}
-use Rattle.process_cell.specs.Steps.{Becomes, Enters, EntersFork, IsAsked, IsForked, TellsWait, asks_way, born, running, waiting}
+use Rattle.process_cell.specs.Steps.{Becomes, Enters, EntersFork, IsAsked, IsForked, asks_way, born, running, waiting}
 use Rattle.process_cell.specs.declared.results.Phase.{Phase}
 use Rattle.process_cell.specs.declared.results.Phase.TheVariants as phase
 use Rattle.process_cell.proofs.Ties.{does_none, settled, stands_then}
@@ -318,30 +316,6 @@ module _ (launch : Launch) (begins : MayBegin launch.tree launch.grants) (v w : 
   asked_tells what result gives threads' later old does lives plain way told threads_are phase_is is =
       subst (λ (x : Standing × Threads × Phase). IsAsked launch t what x.0 (standing_of w (record body' { threads = x.1 }) x.2) result gives)
       (λ i. (is i, sym threads_are i, sym phase_is i)) (asked_by what result gives does lives plain way told)
-
--- ---- the times that are told
-
-tells_by : (launch : Launch) (pass : Passing) (p t : ℕ) (what : Asked) (result : Came After) (told told' : Option Times) (body : Body) (now : Phase) → pass.pid ≡ p
-    → TellsTimes launch pass.seen p t what result told told' → TellsWait launch t (standing_of pass body now) result told'
-tells_by launch pass p t what (came.Done to.Waits) told told' body now pid (inl here) = subst (λ (q : ℕ). AreTold launch pass.seen q t told') (sym pid) here
-tells_by launch pass p t what (came.Done to.Waits) told told' body now pid (inr none) = absurd (cc none.2)
-tells_by launch pass p t what came.NotReady told told' body now pid (inl here) = subst (λ (q : ℕ). AreTold launch pass.seen q t told') (sym pid) here
-tells_by launch pass p t what came.NotReady told told' body now pid (inr none) = absurd (cc none.2)
-tells_by launch pass p t what (came.Done to.Runs) told told' body now pid tells = tt
-tells_by launch pass p t what (came.Done (to.Starts u)) told told' body now pid tells = tt
-tells_by launch pass p t what (came.Done to.Leaves) told told' body now pid tells = tt
-tells_by launch pass p t what (came.Done to.Begins) told told' body now pid tells = tt
-tells_by launch pass p t what (came.Done to.Lost) told told' body now pid tells = tt
-tells_by launch pass p t what (came.Done to.Ended) told told' body now pid tells = tt
-tells_by launch pass p t what came.Gone told told' body now pid tells = tt
-tells_by launch pass p t what came.NoMemory told told' body now pid tells = tt
-
--- of a thread that waits after what it asked for
-pub wait_is_told : (launch : Launch) (w : Passing) (p t : ℕ) (what : Asked) (result ran : Came After) (told told' : Option Times) (body : Body) (now : Phase)
-    → w.pid ≡ p → TellsTimes launch w.seen p t what result told told' → ran ≡ result → TellsWait launch t (standing_of w body now) ran told'
-wait_is_told launch w p t what result ran told told' body now pid tells is =
-    subst (λ (x : Came After). TellsWait launch t (standing_of w body now) x told') (sym is)
-    (tells_by launch w p t what result told told' body now pid tells)
 
 -- ---- a proc_fork
 

@@ -13,8 +13,8 @@ use Rattle.run_model.proofs.Worlds.{clock_counts, first_clock}
 use Rattle.kernel_cell.specs.Cell.{IsBookOf}
 use Rattle.kernel_cell.specs.declared.cell.Book.{Book}
 use Rattle.process_cell.specs.Driven.{IsDriven, ComesOut}
-use Rattle.process_cell.specs.declared.run.Driven.{Driven}
-use Rattle.process_cell.specs.declared.run.Driven.TheVariants as driven
+use Rattle.process_cell.specs.declared.workers.Driven.{Driven}
+use Rattle.process_cell.specs.declared.workers.Driven.TheVariants as driven
 
 -- where the clock has moved there is an entry
 some_entry : (launch : Launch) (all : Bool) (book : Book) → IsBookOf launch all book → 0 < book.kernel.clock → book.history ≢ []

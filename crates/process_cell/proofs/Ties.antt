@@ -354,15 +354,15 @@ module _ (launch : Launch) (begins : MayBegin launch.tree launch.grants) (p : �
   )
 
 -- after a look
-pub looked_lives : (launch : Launch) → MayBegin launch.tree launch.grants → (v w : Passing) (body : Body) (lives : Bool) (moment : ℕ)
-    → Tied launch v body phase.Lives → Looked launch v w lives moment → lives ≡ true → Tied launch w body phase.Lives
-looked_lives launch begins v w body lives moment tied looked on =
+pub looked_lives : (launch : Launch) → MayBegin launch.tree launch.grants → (v w : Passing) (body : Body) (lives : Bool)
+    → Tied launch v body phase.Lives → Looked launch v w lives → lives ≡ true → Tied launch w body phase.Lives
+looked_lives launch begins v w body lives tied looked on =
     at_pass launch w v.pid body phase.Lives looked.pid
     (lives_at launch begins v.pid v.seen w.seen looked.seen.legal looked.later body.threads body.turns body.guest tied.0 (looked.live.0 on) tied.1)
 
-pub looked_gone : (launch : Launch) (v w : Passing) (body : Body) (lives : Bool) (moment : ℕ) → Looked launch v w lives moment → lives ≡ false
+pub looked_gone : (launch : Launch) (v w : Passing) (body : Body) (lives : Bool) → Looked launch v w lives → lives ≡ false
     → Tied launch w body phase.Gone
-looked_gone launch v w body lives moment looked off =
+looked_gone launch v w body lives looked off =
     at_pass launch w v.pid body phase.Gone looked.pid (λ alive. true≢false (sym (looked.live.1 alive) ∙ off))
 
 -- ---- what came of what a thread asked for

@@ -6,8 +6,8 @@ use Rattle.kernel_model.specs.Wakes.{IsStalled}
 use Rattle.run_model.specs.Ends.{Stalled}
 use Rattle.kernel_cell.specs.Cell.{IsBookOf}
 use Rattle.kernel_cell.specs.declared.cell.Book.{Book}
-use Rattle.process_cell.specs.declared.run.Driven.{Driven}
-use Rattle.process_cell.specs.declared.run.Driven.TheVariants as driven
+use Rattle.process_cell.specs.declared.workers.Driven.{Driven}
+use Rattle.process_cell.specs.declared.workers.Driven.TheVariants as driven
 
 -- The book is of a run of the launch; in a run that ended no process is live, one that stalled is stalled after its history, and one
 -- for which memory ran out is neither, and has an entry, or none where that was before the first.

@@ -3,7 +3,7 @@
 --     Becomes, IsAsked      what comes of what a thread asks the kernel for
 --     IsCalled, IsForked, IsFinished, IsEnded      a call, a proc_fork, a wake, and an end from outside
 --     IsRun      a turn and what it ends in
---     IsStepped, asker, TellsWait      a step
+--     IsStepped      a step
 --     HasSeen, IsLooked      a look
 use Rattle.std.specs.Prelude.{◌≡◌, ◌⊎◌, ◌<◌, ◌-◌, ℕ, Bool, false, true, [], ◌∷◌, ◌++◌, Option, None, Some}
 use Rattle.std.specs.FinMap.{get, insert, remove}
@@ -18,7 +18,7 @@ use Rattle.run_model.specs.Own.{IsLiveIn}
 use Rattle.run_model.specs.World.{share, world}
 use Rattle.shared_history.specs.Entries.{entry_of, head_of}
 use Rattle.shared_history.specs.Passes.{Later}
-use Rattle.kernel_cell.specs.Acting.{AreTold, EndsOthers, IsNotReady, MayCome, child_of}
+use Rattle.kernel_cell.specs.Acting.{EndsOthers, IsNotReady, MayCome, child_of}
 use Rattle.kernel_cell.specs.Asking.{Answers, IsWake}
 use Rattle.kernel_cell.specs.Afterwards.{Threads}
 use Rattle.kernel_cell.specs.declared.results.After.{After}
@@ -31,7 +31,6 @@ use Rattle.kernel_cell.specs.declared.results.Doing.{Doing}
 use Rattle.kernel_cell.specs.declared.results.Doing.TheVariants as doing
 use Rattle.kernel_cell.specs.declared.results.EndBy.{EndBy}
 use Rattle.kernel_cell.specs.declared.results.EndBy.TheVariants as end_by
-use Rattle.kernel_cell.specs.declared.results.Times.{Times}
 use Rattle.process_cell.specs.Phases.{alone, is_yield, phase_after_turn}
 use Rattle.process_cell.specs.Standing.{Standing}
 use Rattle.process_cell.specs.declared.results.Phase.{Phase}
@@ -188,29 +187,16 @@ StepsFrom launch t phase.Lost before after result gives = (after ≡ before) × 
 abbrev pub IsStepped : Launch → ℕ → Standing → Standing → Came After → Bool → Type 0
 IsStepped launch t before after result gives = StepsFrom launch t before.phase before after result gives
 
--- the thread that asks in it: the one that stands at its call or its trap, if one does
-abbrev pub asker : Phase → ℕ → ℕ
-asker (phase.Calls u) t = u
-asker (phase.Traps u signal) t = u
-asker other t = t
-
--- The times are told of a thread that waits then.
-abbrev pub TellsWait : Launch → ℕ → Standing → Came After → Option Times → Type 0
-TellsWait launch t after (came.Done to.Waits) told = AreTold launch after.seen after.pid t told
-TellsWait launch t after came.NotReady told = AreTold launch after.seen after.pid t told
-TellsWait launch t after other told = Unit {0}
-
 -- ---- a look
 
--- The process has seen a history, in which others alone did entries since. It is gone exactly where that ended it, and the moment is that of it.
-pub record HasSeen (launch : Launch) (before after : Standing) (moment : ℕ) : Type 0 where
+-- The process has seen a history, in which others alone did entries since. It is gone exactly where that ended it.
+pub record HasSeen (launch : Launch) (before after : Standing) : Type 0 where
   pub later : Later before.pid before.seen after.seen
   pub lives : after.phase ≡ phase.Lives → IsLiveIn (world launch after.seen) before.pid
   pub gone : after.phase ≡ phase.Gone → ¬ IsLiveIn (world launch after.seen) before.pid
-  pub moment_is : moment ≡ (world launch after.seen).state.clock
 
 -- Nothing of the process changed but the history that it has seen, and that it may be known to have ended. Between two steps it has looked.
-pub record IsLooked (launch : Launch) (before after : Standing) (moment : ℕ) : Type 0 where
+pub record IsLooked (launch : Launch) (before after : Standing) : Type 0 where
   pub same : after ≡ record before { phase = after.phase; seen = after.seen }
   pub ended : (after.phase ≡ before.phase) ⊎ (after.phase ≡ phase.Gone)
-  pub looked : before.phase ≡ phase.Lives → HasSeen launch before after moment
+  pub looked : before.phase ≡ phase.Lives → HasSeen launch before after

@@ -2,13 +2,10 @@
 //! run from its begin to the book that is closed once the workers are done.
 #![tactic(auto)]
 
-pub use process::Process;
+pub use process::{Gate, OpenGate, Process, Worker};
 pub use results::{Did, Phase};
-pub use run::{Driven, drive};
-pub use worker::{Gate, OpenGate, Worker};
+pub use workers::{Driven, drive};
 
 mod process;
 mod results;
-mod run;
-mod worker;
 mod workers;

@@ -1,26 +1,61 @@
 //! A process: its guest, what its threads do, the turns that no entry has yet, and its pass. What it has is always what the world of the
-//! history that its pass has seen says, after those turns.
+//! history that its pass has seen says, after those turns. Its steps are taken by a worker, who passes a gate.
 ghost use Rattle.std.specs.Prelude.{◌≡◌, ◌<◌, IfOk, IfErr, OnErr};
 ghost use Rattle.std.specs.FinMap as map;
 ghost use Rattle.call_codec.specs.Bounded.{IsBounded};
 ghost use Rattle.kernel_cell.specs.declared.results.EndBy.TheVariants as end_by;
 ghost use Rattle.process_cell.specs.declared.results.Phase.TheVariants as phase;
 ghost use Rattle.process_cell.specs.Process.{IsDue, RunsIn, WaitsIn, new_pass, first_standing};
-ghost use Rattle.process_cell.specs.Steps.{IsCalled, IsForked, IsFinished, IsEnded, IsLooked, IsRun, IsStepped, TellsWait, asker, turned_standing};
+ghost use Rattle.process_cell.specs.Steps.{IsCalled, IsForked, IsFinished, IsEnded, IsLooked, IsRun, IsStepped, turned_standing};
 
 use crate::results::{
     Did, Phase, born, gives_way, going_on, one_running, phase_after_turn, settle,
 };
-use crate::worker::{Gate, Worker};
 use abi_types::{Call, Pid, Signal, Tid, TidList};
 use guest_process::{FIRST_THREAD, Guest};
-use kernel_cell::{After, Asked, Body, Came, Doing, EndBy, Naming, Pass, Times};
+use kernel_cell::{After, Asked, Body, Came, Cell, Doing, EndBy, Naming, Pass};
 use maps::NumMap;
 use run_types::Launch;
 use rv_interp::TurnEnd;
 use std::alloc::{AllocError, Global};
 use std::marker::Model;
 use std::sync::Wait;
+
+/// Is called by the worker with this number while it has the process. It may watch or hold the worker, and no contract
+/// rests on it.
+pub trait Gate {
+    /// Before each turn of a thread.
+    fn turning(&self, worker: u32, pid: Pid, tid: Tid);
+
+    /// Before a thread's call, trap or expiry becomes an entry of the history, and before a thread that waits is tried, whose wake is an
+    /// entry where the thread is ready. A proc_fork passes it twice: as it is read, and before it is made. The process has `left` turns left.
+    fn before(&self, worker: u32, pid: Pid, tid: Tid, left: u64);
+
+    /// After one of these was answered, or was found to be none any more, since the process or the thread had ended before.
+    fn after(&self, worker: u32, pid: Pid, tid: Tid);
+}
+
+/// The gate that does nothing.
+#[derive(Clone, Copy)]
+pub struct OpenGate;
+
+impl Gate for OpenGate {
+    fn turning(&self, _worker: u32, _pid: Pid, _tid: Tid) {}
+
+    fn before(&self, _worker: u32, _pid: Pid, _tid: Tid, _left: u64) {}
+
+    fn after(&self, _worker: u32, _pid: Pid, _tid: Tid) {}
+}
+
+/// A worker, by its number, with the run's kernel and the gate that it passes.
+#[derive(Drop)]
+pub struct Worker<'a, J: Naming, R: Wait, G: Gate> {
+    pub rt: &'a R,
+    pub alloc: Global,
+    pub cell: &'a Cell<J>,
+    pub gate: &'a G,
+    pub number: u32,
+}
 
 /// A process of a run. Contracts see whose it is, its phase, what each of its threads does, how many turns it has left, the turns that no
 /// entry has yet, the history as it has seen it, and the entries of it that it did.
@@ -120,13 +155,12 @@ impl<J: Naming> Process<J> {
     pub fn call<R: Wait, G: Gate>(
         &mut self,
         worker: &Worker<'_, J, R, G>,
-        told: &mut Option<Times>,
+        told: &mut bool,
         tid: Tid,
     ) -> Did
         requires { self.old.phase ≡ phase.Calls tid }
         ensures same { self.new.pid ≡ self.old.pid }
         ensures called { IsCalled J.launch tid self.old self.new result.came result.gives_way }
-        ensures told { TellsWait J.launch tid self.new result.came told.new }
     {
         let Ok(call) = self.body.guest.call(worker.alloc, tid) else {
             self.phase = Phase::Lost;
@@ -142,7 +176,7 @@ impl<J: Naming> Process<J> {
             .cell
             .act(worker.rt, &mut self.pass, &mut self.body, tid, what, told);
         self.phase = settle(&mut self.body.threads, tid, Doing::Runs, &came);
-        Did::answered(came, yields, told)
+        Did::answered(came, yields, *told)
     }
 
     // The proc_fork at which the last turn, of this thread, ended, and the child, where one was made. What the child's thread does is noted
@@ -150,7 +184,7 @@ impl<J: Naming> Process<J> {
     fn make_child<R: Wait, G: Gate>(
         &mut self,
         worker: &Worker<'_, J, R, G>,
-        told: &mut Option<Times>,
+        told: &mut bool,
         tid: Tid,
     ) -> (Did, Option<Process<J>>)
         requires { self.old.phase ≡ phase.Forks tid }
@@ -169,7 +203,7 @@ impl<J: Naming> Process<J> {
         let came = going_on(&forked);
         self.phase = settle(&mut self.body.threads, tid, Doing::Runs, &came);
         let Some((pass, guest)) = born(forked) else {
-            return (Did::answered(came, false, told), None);
+            return (Did::answered(came, false, *told), None);
         };
         let child = Process {
             body: Body {
@@ -180,7 +214,7 @@ impl<J: Naming> Process<J> {
             phase: Phase::Lives,
             pass,
         };
-        (Did::answered(came, true, told), Some(child))
+        (Did::answered(came, true, *told), Some(child))
     }
 
     /// The proc_fork at which the last turn, of this thread, ended: the kernel answers it, and it is an entry of the history. With it comes
@@ -188,7 +222,7 @@ impl<J: Naming> Process<J> {
     pub fn fork<R: Wait, G: Gate>(
         &mut self,
         worker: &Worker<'_, J, R, G>,
-        told: &mut Option<Times>,
+        told: &mut bool,
         tid: Tid,
     ) -> (Did, Option<Process<J>>)
         requires { self.old.phase ≡ phase.Forks tid }
@@ -208,27 +242,26 @@ impl<J: Naming> Process<J> {
     pub fn finish<R: Wait, G: Gate>(
         &mut self,
         worker: &Worker<'_, J, R, G>,
-        told: &mut Option<Times>,
+        told: &mut bool,
         tid: Tid,
     ) -> Did
         requires { WaitsIn tid self.old }
         ensures same { self.new.pid ≡ self.old.pid }
         ensures finished { IsFinished J.launch tid self.old self.new result.came result.gives_way }
-        ensures told { TellsWait J.launch tid self.new result.came told.new }
     {
         let what = Asked::Wakes;
         let came = worker
             .cell
             .act(worker.rt, &mut self.pass, &mut self.body, tid, what, told);
         self.phase = settle(&mut self.body.threads, tid, Doing::Waits, &came);
-        Did::answered(came, true, told)
+        Did::answered(came, true, *told)
     }
 
     // Its end from outside, by a thread of it, which is an entry of the history.
     fn end<R: Wait, G: Gate>(
         &mut self,
         worker: &Worker<'_, J, R, G>,
-        told: &mut Option<Times>,
+        told: &mut bool,
         tid: Tid,
         how: EndBy,
     ) -> Did
@@ -236,21 +269,20 @@ impl<J: Naming> Process<J> {
         ensures same { self.new.pid ≡ self.old.pid }
         ensures left { self.new.left ≡ self.old.left }
         ensures ended { IsEnded J.launch how tid self.old self.new result.came result.gives_way }
-        ensures told { TellsWait J.launch tid self.new result.came told.new }
     {
         let what = Asked::Ends(how);
         let came = worker
             .cell
             .act(worker.rt, &mut self.pass, &mut self.body, tid, what, told);
         self.phase = settle(&mut self.body.threads, tid, Doing::Runs, &came);
-        Did::answered(came, false, told)
+        Did::answered(came, false, *told)
     }
 
     /// The trap by which the last turn, of this thread, ended: it ends the process with all its threads.
     pub fn trap<R: Wait, G: Gate>(
         &mut self,
         worker: &Worker<'_, J, R, G>,
-        told: &mut Option<Times>,
+        told: &mut bool,
         tid: Tid,
         signal: Signal,
     ) -> Did
@@ -258,7 +290,6 @@ impl<J: Naming> Process<J> {
         ensures same { self.new.pid ≡ self.old.pid }
         ensures left { self.new.left ≡ self.old.left }
         ensures ended { IsEnded J.launch (end_by.Trap signal) tid self.old self.new result.came result.gives_way }
-        ensures told { TellsWait J.launch tid self.new result.came told.new }
     {
         self.end(worker, told, tid, EndBy::Trap(signal))
     }
@@ -267,7 +298,7 @@ impl<J: Naming> Process<J> {
     pub fn expire<R: Wait, G: Gate>(
         &mut self,
         worker: &Worker<'_, J, R, G>,
-        told: &mut Option<Times>,
+        told: &mut bool,
         tid: Tid,
     ) -> Did
         requires runs { RunsIn tid self.old }
@@ -275,7 +306,6 @@ impl<J: Naming> Process<J> {
         ensures same { self.new.pid ≡ self.old.pid }
         ensures left { self.new.left ≡ self.old.left }
         ensures ended { IsEnded J.launch end_by.Expire tid self.old self.new result.came result.gives_way }
-        ensures told { TellsWait J.launch tid self.new result.came told.new }
     {
         self.end(worker, told, tid, EndBy::Expire)
     }
@@ -284,13 +314,12 @@ impl<J: Naming> Process<J> {
     fn enter<R: Wait, G: Gate>(
         &mut self,
         worker: &Worker<'_, J, R, G>,
-        told: &mut Option<Times>,
+        told: &mut bool,
         tid: Tid,
     ) -> Did
         requires { RunsIn tid self.old → self.old.left ≡ 0 }
         ensures same { self.new.pid ≡ self.old.pid }
         ensures stepped { IsStepped J.launch tid self.old self.new result.came result.gives_way }
-        ensures told { TellsWait J.launch (asker self.old.phase tid) self.new result.came told.new }
     {
         match self.phase() {
             Phase::Lives => match self.doing(tid) {
@@ -310,13 +339,12 @@ impl<J: Naming> Process<J> {
     fn pass_gate<R: Wait, G: Gate>(
         &mut self,
         worker: &Worker<'_, J, R, G>,
-        told: &mut Option<Times>,
+        told: &mut bool,
         tid: Tid,
     ) -> Did
         requires { RunsIn tid self.old → self.old.left ≡ 0 }
         ensures same { self.new.pid ≡ self.old.pid }
         ensures stepped { IsStepped J.launch tid self.old self.new result.came result.gives_way }
-        ensures told { TellsWait J.launch (asker self.old.phase tid) self.new result.came told.new }
     {
         worker
             .gate
@@ -330,14 +358,13 @@ impl<J: Naming> Process<J> {
     fn run<R: Wait, G: Gate>(
         &mut self,
         worker: &Worker<'_, J, R, G>,
-        told: &mut Option<Times>,
+        told: &mut bool,
         tid: Tid,
     ) -> Did
         requires runs { RunsIn tid self.old }
         requires left { 0 < self.old.left }
         ensures same { self.new.pid ≡ self.old.pid }
         ensures run { IsRun J.launch tid self.old self.new result.came result.gives_way }
-        ensures told { TellsWait J.launch tid self.new result.came told.new }
     {
         worker.gate.turning(worker.number, self.pid(), tid);
         match self.turn(tid) {
@@ -353,12 +380,11 @@ impl<J: Naming> Process<J> {
     pub fn step<R: Wait, G: Gate>(
         &mut self,
         worker: &Worker<'_, J, R, G>,
-        told: &mut Option<Times>,
+        told: &mut bool,
         tid: Tid,
     ) -> Did
         ensures same { self.new.pid ≡ self.old.pid }
         ensures stepped { IsStepped J.launch tid self.old self.new result.came result.gives_way }
-        ensures told { TellsWait J.launch (asker self.old.phase tid) self.new result.came told.new }
     {
         match self.phase() {
             Phase::Lives => match self.doing(tid) {
@@ -379,15 +405,13 @@ impl<J: Naming> Process<J> {
         }
     }
 
-    /// Looks whether others have ended the process, where it is between two steps, and gives the moment then.
-    pub fn look<R: Wait, G: Gate>(&mut self, worker: &Worker<'_, J, R, G>) -> u64
-        ensures { IsLooked J.launch self.old self.new result }
+    /// Looks whether others have ended the process, where it is between two steps.
+    pub fn look<R: Wait, G: Gate>(&mut self, worker: &Worker<'_, J, R, G>)
+        ensures { IsLooked J.launch self.old self.new }
     {
         if let Phase::Lives = self.phase {
-            let (lives, moment) = worker.cell.look(worker.rt, &mut self.pass);
+            let lives = worker.cell.look(worker.rt, &mut self.pass);
             self.phase = if lives { Phase::Lives } else { Phase::Gone };
-            return moment;
         }
-        0
     }
 }

@@ -8,7 +8,7 @@ ghost use Rattle.kernel_cell.specs.declared.results.Doing.TheVariants as doing;
 
 use abi_types::{Call, Signal, Tid};
 use guest_process::Guest;
-use kernel_cell::{After, Came, Doing, Naming, Pass, Times};
+use kernel_cell::{After, Came, Doing, Naming, Pass};
 use maps::NumMap;
 use rv_interp::TurnEnd;
 use std::alloc::Global;
@@ -51,19 +51,14 @@ impl Did {
         }
     }
 
-    /// This, with what the kernel has told. The thread gives way where it is to, and where others are to be looked at again. By what was told
-    /// with an earlier answer none is, since the thread would have given way then.
-    pub(crate) fn answered(came: Came<After>, gives_way: bool, told: &Option<Times>) -> Did
+    /// This, by an answer of the kernel. The thread gives way where it is to, and where news were told, which the board is to learn.
+    pub(crate) fn answered(came: Came<After>, yields: bool, told: bool) -> Did
         ensures came { result.came ≡ came }
-        ensures gives { gives_way ≡ true → result.gives_way ≡ true }
+        ensures gives { yields ≡ true → result.gives_way ≡ true }
     {
-        let others = match told {
-            Some(times) => !times.wakes.is_empty(),
-            None => false,
-        };
         Did {
             came,
-            gives_way: gives_way || others,
+            gives_way: yields || told,
         }
     }
 

@@ -1,16 +1,18 @@
-//! The workers of a run. Each takes a ticket, takes turns of its thread, and gives it back, with what it tells the board of it. Where all
-//! threads wait, one worker lets time go on.
+//! The run of a launch that has begun, to the closed book, by workers. Each takes a ticket, takes turns of its thread, and gives it back. Where
+//! the board was told that some thread may be ready, one worker asks the kernel for it; where all threads wait, one lets time go on.
 ghost use Rattle.std.specs.Prelude.{◌≡◌};
+ghost use Rattle.call_codec.specs.Bounded.{IsBounded};
+ghost use Rattle.kernel_cell.specs.Cell.{IsBookOf};
+ghost use Rattle.process_cell.specs.Driven.{ComesOut, IsDriven};
 
-use crate::process::Process;
+use crate::process::{Gate, Process, Worker};
 use crate::results::{Did, Phase};
-use crate::worker::{Gate, Worker};
 use abi_types::{Pid, Tid};
 use guest_process::FIRST_THREAD;
-use kernel_cell::{After, Came, Cell, Idled, Naming, Times};
-use kernel_core::Wakes;
+use kernel_cell::{After, Begun, Book, Came, Cell, Idled, Naming};
 use std::alloc::{AllocError, Global};
-use std::sync::{Arc, Condvar, Mutex, Wait};
+use std::marker::Brand;
+use std::sync::{Arc, Condvar, Mutex, MutexGuard, Wait};
 use std::thread;
 use std::thread::Threads;
 use turn_queue::{Back, Board, Passed, SharedTicket, Task, Ticket};
@@ -67,10 +69,8 @@ struct Ran<J: Naming> {
     came: Came<After>,
     // The ticket of the child that it made, if it made one.
     child: Option<ThreadTicket<J>>,
-    // What the kernel told with its answer, if it told more than that the thread goes on.
-    times: Option<Times>,
-    // The moment, in nanoseconds since the run began, at which the process was looked at, or 0 where it wasn't.
-    looked: u64,
+    // Whether some thread may be ready by them, or gone.
+    told: bool,
 }
 
 // What a worker did.
@@ -78,71 +78,50 @@ struct Ran<J: Naming> {
 enum Done<J: Naming> {
     // Steps of a ticket's thread.
     Ran(ThreadTicket<J>, Ran<J>),
-    // It asked the kernel to let time go on, of which this came; and the run's moment then.
-    Idled(Idled, u64),
+    // It asked the kernel for a ready thread, and this one is.
+    Asked(Option<(Pid, Tid)>),
+    // It asked the kernel to let time go on, of which this came.
+    Idled(Idled),
 }
 
 impl<J: Naming> Done<J> {
-    // Tells the board.
-    fn tell(self, board: &mut Board<ThreadTicket<J>>) {
+    // Tells the board. With it comes the ticket of a thread that has ended.
+    fn tell(self, board: &mut Board<ThreadTicket<J>>) -> Option<ThreadTicket<J>> {
         match self {
             Done::Ran(ticket, ran) => {
-                let Ran {
-                    came,
-                    child,
-                    times,
-                    looked,
-                } = ran;
-                let (until, moment) = tell_times(&times, looked, board);
-                board.take_back(ticket, back(&came, until), child, moment);
+                let Ran { came, child, told } = ran;
+                board.tell(told);
+                board.take_back(ticket, back(&came), child)
             }
-            Done::Idled(idled, moment) => board.take_passed(passed(idled, moment)),
+            Done::Asked(found) => {
+                board.take_asked(found);
+                None
+            }
+            Done::Idled(idled) => {
+                board.take_passed(passed(idled));
+                None
+            }
         }
     }
 }
 
-// Tells the board whom to look at again. Until when the thread waits, and the moment, which is that of the look where the kernel told none.
-fn tell_times<J: Naming>(
-    times: &Option<Times>,
-    looked: u64,
-    board: &mut Board<ThreadTicket<J>>,
-) -> (Option<u64>, u64) {
-    match times {
-        Some(times) => {
-            tell_wakes(&times.wakes, board);
-            (times.until, times.moment)
-        }
-        None => (None, looked),
-    }
-}
-
-// Tells the board whom to look at again.
-fn tell_wakes<J: Naming>(wakes: &Wakes, board: &mut Board<ThreadTicket<J>>) {
-    if wakes.all {
-        board.look_at_all();
-    }
-    for thread in wakes.threads.iter() {
-        board.look_at(thread.pid, thread.tid);
-    }
-}
-
-// How the ticket comes back of a thread of whose last step this came, which waits until this moment if it waits.
-fn back(came: &Came<After>, until: Option<u64>) -> Back {
+// How the ticket comes back of a thread of whose last step this came.
+fn back(came: &Came<After>) -> Back {
     match came {
         Came::NoMemory | Came::Done(After::Lost) => Back::NoMemory,
         Came::Gone | Came::Done(After::Leaves) | Came::Done(After::Ended) => Back::Leaves,
         Came::Done(After::Runs) | Came::Done(After::Begins) => Back::Runs,
         Came::Done(After::Starts(tid)) => Back::Started(*tid),
-        Came::NotReady | Came::Done(After::Waits) => Back::Waits(until),
+        Came::NotReady | Came::Done(After::Waits) => Back::Waits,
     }
 }
 
-// What came of time by this moment.
-fn passed(idled: Idled, moment: u64) -> Passed {
+// What came of time.
+fn passed(idled: Idled) -> Passed {
     match idled {
-        Idled::Jumped => Passed::To(moment),
+        Idled::Jumped => Passed::Jumped,
         Idled::Busy => Passed::Busy,
-        Idled::Stalled | Idled::NoMemory => Passed::Stopped,
+        Idled::Stalled | Idled::Over | Idled::NoMemory => Passed::Stopped,
     }
 }
 
@@ -154,11 +133,25 @@ struct Workplace<J: Naming> {
 }
 
 impl<J: Naming> Workplace<J> {
-    // The next task for a worker, who says what it did. Another worker is woken only where one waits that need wait no more.
+    // Leaves the board. Another worker is woken only where one waits that need wait no more.
+    fn leave(&self, board: MutexGuard<'_, Board<ThreadTicket<J>>>) {
+        let rings = board.rings();
+        drop(board);
+        if rings {
+            self.bell.notify_one();
+        }
+    }
+
+    // The next task for a worker, who says what it did. The ticket of a thread that has ended is dropped while the board is left, since a
+    // process's last ticket drops its memory.
     fn next<R: Wait>(&self, rt: &R, done: Option<Done<J>>) -> Task<ThreadTicket<J>> {
         let mut board = self.board.lock(rt);
         if let Some(done) = done {
-            done.tell(&mut board);
+            if let Some(ended) = done.tell(&mut board) {
+                self.leave(board);
+                drop(ended);
+                board = self.board.lock(rt);
+            }
         }
         if board.waits() {
             board.begin_waiting();
@@ -166,12 +159,16 @@ impl<J: Naming> Workplace<J> {
             board.end_waiting();
         }
         let task = board.hand_out();
-        let rings = board.rings();
-        drop(board);
-        if rings {
-            self.bell.notify_one();
-        }
+        self.leave(board);
         task
+    }
+
+    // Drops the parked ticket of a thread that has ended, once the board is left.
+    fn drop_parked<R: Wait>(&self, rt: &R, pid: Pid, tid: Tid) {
+        let mut board = self.board.lock(rt);
+        let ended = board.drop_parked(pid, tid);
+        drop(board);
+        drop(ended);
     }
 }
 
@@ -181,7 +178,7 @@ impl<J: Naming, R: Wait, G: Gate> Worker<'_, J, R, G> {
     fn step(
         &self,
         process: &mut Process<J>,
-        told: &mut Option<Times>,
+        told: &mut bool,
         tid: Tid,
     ) -> (Did, Option<ThreadTicket<J>>) {
         let did = process.step(self, told, tid);
@@ -202,19 +199,18 @@ impl<J: Naming, R: Wait, G: Gate> Worker<'_, J, R, G> {
     // have their turn. Then the process is looked at, which others may have ended.
     fn run(&self, ticket: &ThreadTicket<J>) -> Ran<J> {
         let mut process = ticket.process.lock(self.rt);
-        let mut told = None;
+        let mut told = false;
         for _ in 0..STEPS {
             let (did, child) = self.step(&mut process, &mut told, ticket.tid());
             if !did.goes_on() {
                 return Ran {
                     came: did.came,
                     child,
-                    times: told,
-                    looked: 0,
+                    told,
                 };
             }
         }
-        let looked = process.look(self);
+        process.look(self);
         let came = match process.phase() {
             Phase::Gone => Came::Gone,
             _ => Came::Done(After::Runs),
@@ -222,8 +218,17 @@ impl<J: Naming, R: Wait, G: Gate> Worker<'_, J, R, G> {
         Ran {
             came,
             child: None,
-            times: None,
-            looked,
+            told,
+        }
+    }
+
+    // Drops the parked tickets of threads that have ended while they waited.
+    fn drop_gone(&self, workplace: &Workplace<J>) {
+        for _ in self.rt.forever() {
+            let Some((pid, tid)) = self.cell.take_gone(self.rt) else {
+                return;
+            };
+            workplace.drop_parked(self.rt, pid, tid);
         }
     }
 
@@ -236,9 +241,14 @@ impl<J: Naming, R: Wait, G: Gate> Worker<'_, J, R, G> {
                     let ran = self.run(&ticket);
                     Some(Done::Ran(ticket, ran))
                 }
+                Task::Ask(after) => {
+                    self.drop_gone(workplace);
+                    let found = self.cell.next_ready(self.rt, after);
+                    Some(Done::Asked(found))
+                }
                 Task::Idle => {
-                    let (idled, moment) = self.cell.idle(self.rt);
-                    Some(Done::Idled(idled, moment))
+                    let idled = self.cell.idle(self.rt);
+                    Some(Done::Idled(idled))
                 }
                 Task::Leave => return,
             };
@@ -246,9 +256,9 @@ impl<J: Naming, R: Wait, G: Gate> Worker<'_, J, R, G> {
     }
 }
 
-/// Runs a process with all its threads, and all that it makes, with this many workers, of which the caller is one. A worker whose thread
-/// can't be started is left out.
-pub fn run_process<J: Naming + Send + Sync, R: Threads + Wait + Sync, G: Gate + Sync>(
+// Runs a process with all its threads, and all that it makes, with this many workers, of which the caller is one. A worker whose thread
+// can't be started is left out.
+fn run_process<J: Naming + Send + Sync, R: Threads + Wait + Sync, G: Gate + Sync>(
     rt: &R,
     alloc: Global,
     cell: &Cell<J>,
@@ -293,4 +303,68 @@ pub fn run_process<J: Naming + Send + Sync, R: Threads + Wait + Sync, G: Gate + 
         };
         first.work(shared);
     });
+}
+
+/// How a run came out, with its book.
+#[derive(Drop)]
+pub enum Driven {
+    /// It ended: no process is live.
+    Ended(Book),
+    /// It stalled: all threads wait, and nothing can happen any more.
+    Stalled(Book),
+    /// Memory ran out before it ended. The book has what came until then, which is at least one entry.
+    Lacking(Book),
+    /// Memory ran out before its first entry, and the book has none.
+    NotBegun(Book),
+}
+
+// Runs a launch that has begun, by its name.
+fn run_named<J: Naming + Send + Sync, R: Threads + Wait + Sync, G: Gate + Sync>(
+    rt: &R,
+    alloc: Global,
+    begun: Begun,
+    workers: u32,
+    gate: &G,
+) -> Book
+    requires table { begun.table ≡ J.table }
+    requires launch { begun.launch ≡ J.launch }
+    requires all { begun.keeps_all ≡ J.keeps_all }
+    requires bounded { IsBounded begun.launch }
+    ensures { IsBookOf begun.launch begun.keeps_all result }
+{
+    let (cell, pass) = begun.named::<J>();
+    match Process::first(alloc, cell.launch(), pass) {
+        Ok(process) => run_process(rt, alloc, &cell, process, workers, gate),
+        Err(pass) => cell.spend(rt, pass),
+    }
+    cell.close()
+}
+
+// How the run came out whose book this is.
+fn outcome(book: Book) -> Driven
+    ensures { ComesOut book result }
+{
+    if !book.kernel.any_live() {
+        Driven::Ended(book)
+    } else if book.kernel.stalled(&book.launch.constants) {
+        Driven::Stalled(book)
+    } else if book.kernel.moment() > 0 {
+        Driven::Lacking(book)
+    } else {
+        Driven::NotBegun(book)
+    }
+}
+
+/// Runs a launch that has begun to its end with this many workers, each a thread of its own. The gate is passed at each step of a process.
+pub fn drive<R: Threads + Wait + Sync, G: Gate + Sync>(
+    rt: &R,
+    alloc: Global,
+    begun: Begun,
+    workers: u32,
+    gate: &G,
+) -> Driven
+    requires { IsBounded begun.launch }
+    ensures { IsDriven begun.launch begun.keeps_all result }
+{
+    outcome(run_named::<Brand, R, G>(rt, alloc, begun, workers, gate))
 }

@@ -1,2 +1,3 @@
-pub mod Orders
+pub mod Parked
+pub mod Passing
 pub mod Positions

@@ -1,5 +1,5 @@
--- The first ticket that is of a thread, and the first whose process is free.
-use Rattle.std.proofs.Common.{◌≡◌, ℕ, ◌<◌, Bool, true, false, cond, nat_lt, List, [], ◌∷◌, ◌++◌, Option, Some, None, length, take, drop, position, slice_index_or, refl, sym, ap, subst, ◌∙◌, suc, arith}
+-- The first ticket whose process is free.
+use Rattle.std.proofs.Common.{◌≡◌, ℕ, ◌<◌, Bool, true, false, cond, nat_lt, List, ◌∷◌, ◌++◌, Option, Some, None, length, take, drop, position, slice_index_or, refl, sym, ap, subst, ◌∙◌, suc, arith}
 use Rattle.std.specs.List.{All, position_or_len, remove}
 use Rattle.std.specs.Option.{IfSome, OnSome}
 use Rattle.std.proofs.Math.ListN.{get_or}
@@ -7,8 +7,7 @@ use Rattle.std.proofs.Math.Seq.{split_at}
 use Rattle.std.proofs.lemmas.List.{get_or-take, length-take}
 use Rattle.std.proofs.lemmas.List.Sums.{fails_before_first, passes_at_first}
 use borrow.Author.Tests.{ltb-true, ltb-false}
-use Rattle.turn_queue.specs.Tickets.{Tickets, Revives, TakesFree, is_free, is_ticket_of}
-use Rattle.turn_queue.specs.declared.queue.Parked.{Parked}
+use Rattle.turn_queue.specs.Tickets.{Tickets, TakesFree, is_free}
 
 found : (test : Bool) (n at : ℕ) → cond test (Some n) None ≡ Some at → (test ≡ true) × (n ≡ at)
 found true n at e = (refl, cc)
@@ -48,21 +47,6 @@ module _ {X : Type 0} (p : X → Bool) (xs : List X) (at : ℕ) (x : X) (place :
 
   splits : xs ≡ take at xs ++ x ∷ drop (suc at) xs
   splits = split_at xs at x below ∙ ap (λ (y : X). take at xs ++ y ∷ drop (suc at) xs) (sym there)
-
--- the ticket at that place is revived
-pub revives : {T : Type 0} (process thread : T → ℕ) (p t at : ℕ) (entry : Parked T) (old new : Tickets T)
-    → position (is_ticket_of process thread p t) old.parked ≡ Some at → entry ≡ slice_index_or old.parked at entry
-    → new.parked ≡ remove old.parked at → new.ready ≡ old.ready ++ entry.ticket ∷ [] → Revives process thread p t old new
-revives process thread p t at entry old new place there parked ready = record {
-  entry = entry;
-  front = take at old.parked;
-  back = drop (suc at) old.parked;
-  was = splits (is_ticket_of process thread p t) old.parked at entry place there;
-  is = passes (is_ticket_of process thread p t) old.parked at entry place there;
-  first = front_fails (is_ticket_of process thread p t) old.parked at entry place there;
-  parked = parked;
-  ready = ready;
-}
 
 -- the ticket at that place is taken
 takes_at : {T : Type 0} (process : T → ℕ) (busy : List ℕ) (at : ℕ) (ticket : T) (old new : Tickets T)

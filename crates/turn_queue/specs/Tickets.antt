@@ -1,60 +1,61 @@
 -- Tickets of threads, those that are ready and those that are parked.
-use Rattle.std.specs.Prelude.{◌≡◌, ℕ, ◌+◌, ◌-◌, ◌^◌, ◌<◌, ◌≤◌, ◌==◌, ◌&&◌, Bool, true, false, not, List, [], ◌∷◌, ◌++◌, length, map, drop, All, Option, None, Some}
-use Rattle.std.specs.List.{insert, list_any}
-use Rattle.std.specs.List.Sorted.{IsNonDecreasingBy, IsPartitionPoint}
-use Rattle.turn_queue.specs.declared.queue.Parked.{Parked}
+use Rattle.std.specs.Prelude.{◌≡◌, ℕ, ◌+◌, ◌*◌, ◌^◌, ◌<◌, ◌≤◌, ◌==◌, Bool, true, false, not, List, [], ◌∷◌, ◌++◌, All, Option, None, Some}
+use Rattle.std.specs.List.{list_any}
+use Rattle.std.specs.FinMap as map
+use Rattle.std.specs.Ordering.{nat_cmp}
 
+-- Those that are parked stand each under the number of its thread.
 pub record Tickets (T : Type 0) : Type 0 where
   pub ready : List T
-  pub parked : List (Parked T)
+  pub parked : map.FinMap nat_cmp T
 
 abbrev pub none : {T : Type 0} → Tickets T
-none = record { ready = []; parked = [] }
+none = record { ready = []; parked = map.empty }
 
-abbrev pub ticket_of : {T : Type 0} → Parked T → T
-ticket_of parked = parked.ticket
+-- ---- whose a ticket is
 
--- ---- moments
+-- the number of thread t of process p
+abbrev pub number_of : ℕ → ℕ → ℕ
+number_of p t = p * 2 ^ 32 + t
 
--- the moment until which a ticket is parked; the last of all stands for none
-abbrev pub moment_of : Option ℕ → ℕ
-moment_of None = 2 ^ 64 - 1
-moment_of (Some until) = until
+-- The number is that of the ticket's thread, where process and thread say whose a ticket is.
+pub record StandsUnder {T : Type 0} (process thread : T → ℕ) (number : ℕ) (ticket : T) : Type 0 where
+  pub is : number ≡ number_of (process ticket) (thread ticket)
+  pub small : thread ticket < 2 ^ 32
 
--- until when a ticket is parked
-abbrev pub until_of : {T : Type 0} → Parked T → ℕ
-until_of parked = parked.until
+-- There is room to make each parked ticket ready, and each stands under the number of its thread.
+pub record IsQueue {T : Type 0} (process thread : T → ℕ) (ready room : ℕ) (parked : map.FinMap nat_cmp T) : Type 0 where
+  pub room_for : ready + map.len parked ≤ room
+  pub under : (number : ℕ) (ticket : T) → map.get parked number ≡ Some ticket → StandsUnder process thread number ticket
 
--- they stand in the order of their moments
-abbrev pub AreInOrder : {T : Type 0} → List (Parked T) → Type 0
-AreInOrder tickets = IsNonDecreasingBy until_of tickets
+-- the ticket is of thread t of process p
+abbrev pub IsTicketOf : {T : Type 0} → (T → ℕ) → (T → ℕ) → ℕ → ℕ → T → Type 0
+IsTicketOf process thread p t ticket = (process ticket ≡ p) × (thread ticket ≡ t)
 
--- none of those before the place is parked longer than until this moment, and each from the place on is
-pub record IsPlace {T : Type 0} (until : ℕ) (tickets : List (Parked T)) (place : ℕ) : Type 0 where
-  pub within : place ≤ length tickets
-  pub parts : IsPartitionPoint (λ p. p.until ≤ until) (λ p. until < p.until) tickets place
+-- ---- one thread
 
--- There is room to make each parked ticket ready, and those that are parked stand in order.
-pub record IsQueue {T : Type 0} (ready parked room : ℕ) (tickets : List (Parked T)) : Type 0 where
-  pub room_for : ready + parked ≤ room
-  pub order : AreInOrder tickets
+-- the ticket, if there is one
+abbrev pub listed : {T : Type 0} → Option T → List T
+listed None = []
+listed (Some ticket) = ticket ∷ []
 
--- ---- parking
+-- The ticket of the thread with this number is parked. One of the same thread that was parked before became the last of those that are ready.
+abbrev pub with_parked : {T : Type 0} → ℕ → T → Tickets T → Tickets T
+with_parked number ticket old = record {
+  ready = old.ready ++ listed (map.get old.parked number);
+  parked = map.insert old.parked number ticket;
+}
 
--- The ticket is parked until this moment, behind those that are parked no longer.
-pub record Parks {T : Type 0} (until : ℕ) (ticket : T) (old new : Tickets T) : Type 0 where
-  pub place : ℕ
-  pub behind : IsPlace until old.parked place
-  pub parked : new.parked ≡ insert old.parked place (record { until = until; ticket = ticket })
-  pub ready : new.ready ≡ old.ready
+-- The parked ticket of the thread with this number, if there is one, is with who took it.
+abbrev pub without : {T : Type 0} → ℕ → Tickets T → Tickets T
+without number old = record { ready = old.ready; parked = map.remove old.parked number }
 
--- Those whose moment has come, and no others, became the last of those that are ready: they were the first of those that are parked, and all
--- tickets stand one behind another as before.
-pub record RevivesDue {T : Type 0} (now : ℕ) (old new : Tickets T) : Type 0 where
-  pub count : ℕ
-  pub due : IsPlace now old.parked count
-  pub parked : new.parked ≡ drop count old.parked
-  pub same : new.ready ++ map ticket_of new.parked ≡ old.ready ++ map ticket_of old.parked
+-- It became the last of those that are ready.
+abbrev pub revived : {T : Type 0} → ℕ → Tickets T → Tickets T
+revived number old = record {
+  ready = old.ready ++ listed (map.get old.parked number);
+  parked = map.remove old.parked number;
+}
 
 -- ---- a free process
 
@@ -66,6 +67,14 @@ is_free process busy ticket = not (list_any (λ p. p == process ticket) busy)
 abbrev pub NoneFree : {T : Type 0} → (T → ℕ) → List ℕ → List T → Type 0
 NoneFree process busy tickets = All (λ ticket. is_free process busy ticket ≡ false) tickets
 
+-- a ticket is parked of another process
+abbrev pub SomeParked : {T : Type 0} → (T → ℕ) → List ℕ → map.FinMap nat_cmp T → Type 0
+SomeParked {T} process busy parked = (number : ℕ) × (ticket : T) × (map.get parked number ≡ Some ticket) × (is_free process busy ticket ≡ true)
+
+-- none is
+abbrev pub NoneParked : {T : Type 0} → (T → ℕ) → List ℕ → map.FinMap nat_cmp T → Type 0
+NoneParked {T} process busy parked = (number : ℕ) (ticket : T) → map.get parked number ≡ Some ticket → is_free process busy ticket ≡ false
+
 -- This ticket was the first whose process is none of these, and was taken. The others are what they were.
 pub record TakesFree {T : Type 0} (process : T → ℕ) (busy : List ℕ) (ticket : T) (old new : Tickets T) : Type 0 where
   pub front : List T
@@ -75,29 +84,3 @@ pub record TakesFree {T : Type 0} (process : T → ℕ) (busy : List ℕ) (ticke
   pub first : NoneFree process busy front
   pub ready : new.ready ≡ front ++ back
   pub parked : new.parked ≡ old.parked
-
--- ---- one thread
-
--- whether the ticket is of thread t of process p, where process and thread say whose a ticket is
-abbrev pub is_ticket_of : {T : Type 0} → (T → ℕ) → (T → ℕ) → ℕ → ℕ → Parked T → Bool
-is_ticket_of process thread p t parked = (process parked.ticket == p) && (thread parked.ticket == t)
-
--- none of these tickets is of that thread
-abbrev pub NoneIs : {T : Type 0} → (T → ℕ) → (T → ℕ) → ℕ → ℕ → List (Parked T) → Type 0
-NoneIs process thread p t tickets = All (λ parked. is_ticket_of process thread p t parked ≡ false) tickets
-
--- The first parked ticket of that thread became the last of those that are ready.
-pub record Revives {T : Type 0} (process thread : T → ℕ) (p t : ℕ) (old new : Tickets T) : Type 0 where
-  pub entry : Parked T
-  pub front : List (Parked T)
-  pub back : List (Parked T)
-  pub was : old.parked ≡ front ++ entry ∷ back
-  pub is : is_ticket_of process thread p t entry ≡ true
-  pub first : NoneIs process thread p t front
-  pub parked : new.parked ≡ front ++ back
-  pub ready : new.ready ≡ old.ready ++ entry.ticket ∷ []
-
--- what the answer says: a ticket of that thread was revived, or none was parked and nothing changed
-abbrev pub IsRevived : {T : Type 0} → (T → ℕ) → (T → ℕ) → ℕ → ℕ → Tickets T → Tickets T → Bool → Type 0
-IsRevived process thread p t old new true = Revives process thread p t old new
-IsRevived process thread p t old new false = NoneIs process thread p t old.parked × (new ≡ old)

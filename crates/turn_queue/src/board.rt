@@ -1,4 +1,5 @@
 //! What the workers of a run share under one lock: the tickets, and who has one or waits for one.
+use crate::asking::Asking;
 use crate::outside::Outside;
 use crate::queue::{Queue, Ticket};
 use abi_base::{Pid, Tid};
@@ -15,6 +16,8 @@ pub trait SharedTicket: Ticket + Drop {
 pub enum Task<T> {
     /// Steps of a thread.
     Run(T),
+    /// To ask the kernel for the next ready thread behind this one, or for the first.
+    Ask(Option<(Pid, Tid)>),
     /// To let time go on, because all threads wait.
     Idle,
     /// Nothing more.
@@ -28,8 +31,8 @@ pub enum Back {
     Runs,
     /// Its thread goes on, and made the thread with this number.
     Started(Tid),
-    /// Its thread waits until this moment, if there is one, or until it is looked at again.
-    Waits(Option<u64>),
+    /// Its thread waits.
+    Waits,
     /// Its thread has ended, or its process, also where others ended that meanwhile.
     Leaves,
     /// Memory ran out.
@@ -39,20 +42,25 @@ pub enum Back {
 /// What came of time that was to go on.
 #[derive(Clone, Copy)]
 pub enum Passed {
-    /// It went on to this moment.
-    To(u64),
-    /// Some thread is ready already, or there is none.
+    /// It went on.
+    Jumped,
+    /// Some thread is ready already.
     Busy,
     /// Nothing can happen any more, or memory ran out.
     Stopped,
 }
 
-/// The tickets of a run, those that workers have, how many workers are at work, how many wait for something to do, and whether all are to
-/// stop, because memory ran out or because nothing can happen any more.
+/// The tickets of a run, those that workers have, whether the kernel is to be asked for threads that are ready, how many workers are at work,
+/// how many wait for something to do, and whether all are to stop, because memory ran out or because nothing can happen any more.
 #[derive(Drop)]
 pub struct Board<T: SharedTicket> {
     queue: Queue<T>,
     outside: Outside,
+    asking: Asking,
+    // The ticket of a free process that the last answer brought, until the worker who asked takes it.
+    found: Option<T>,
+    // Tickets that are ready have their turn, since the last task was to ask, or came of that.
+    asked_last: bool,
     at_work: u32,
     waiting: u32,
     stops: bool,
@@ -65,6 +73,9 @@ impl<T: SharedTicket> Board<T> {
         Ok(Board {
             queue: Queue::new(alloc),
             outside,
+            asking: Asking::new(),
+            found: None,
+            asked_last: false,
             at_work: 0,
             waiting: 0,
             stops: false,
@@ -78,24 +89,17 @@ impl<T: SharedTicket> Board<T> {
         }
     }
 
-    // Parks the ticket of a thread that waits in a call until this moment. Where memory runs out, all workers are to stop.
-    fn park(&mut self, ticket: T, until: Option<u64>) {
-        if self.queue.park(ticket, until).is_err() {
+    // Parks the ticket of a thread that waits in a call. Where memory runs out, all workers are to stop.
+    fn park(&mut self, ticket: T) {
+        if self.queue.park(ticket).is_err() {
             self.stops = true;
         }
     }
 
-    /// Has all threads looked at again.
-    pub fn look_at_all(&mut self) {
-        self.queue.revive_all();
-        self.outside.mark_all();
-    }
-
-    /// Has a thread looked at again: makes its ticket ready if it is parked. A thread whose ticket a worker has may wait by then, so it is
-    /// marked. One whose ticket is neither is ready already, or has ended.
-    pub fn look_at(&mut self, pid: Pid, tid: Tid) {
-        if !self.queue.revive(pid, tid) {
-            self.outside.mark(pid, tid);
+    /// Tells whether some thread may be ready by what was done, or gone, whose ticket is parked.
+    pub fn tell(&mut self, news: bool) {
+        if news {
+            self.asking.tell();
         }
     }
 
@@ -108,25 +112,29 @@ impl<T: SharedTicket> Board<T> {
     }
 
     // Takes a ticket back that comes so. That of a thread that goes on, or that waits and was marked, stands behind those that are ready. A
-    // thread that was made has a ticket from then on, and one that has ended has none.
-    fn place(&mut self, ticket: T, back: Back) {
-        let wake = self.outside.leave(ticket.pid());
+    // thread that was made has a ticket from then on. One that has ended has none, and its ticket is given back.
+    fn place(&mut self, ticket: T, back: Back) -> Option<T> {
+        let again = self.outside.leave(ticket.pid());
         match back {
-            Back::NoMemory => self.stops = true,
-            Back::Leaves => {}
+            Back::NoMemory => {
+                self.stops = true;
+                return Some(ticket);
+            }
+            Back::Leaves => return Some(ticket),
             Back::Runs => self.put(ticket),
             Back::Started(tid) => {
                 self.put_beside(&ticket, tid);
                 self.put(ticket);
             }
-            Back::Waits(until) => {
-                if wake {
+            Back::Waits => {
+                if again {
                     self.put(ticket);
                 } else {
-                    self.park(ticket, until);
+                    self.park(ticket);
                 }
             }
         }
+        None
     }
 
     // A worker is at work no more.
@@ -134,33 +142,59 @@ impl<T: SharedTicket> Board<T> {
         self.at_work = self.at_work.saturating_sub(1);
     }
 
-    /// Takes a ticket back from the worker that had it, and before it that of the child that was made with it, if one was. Threads whose
-    /// deadline has come by this moment are ready, while others go on running. Those that are to be looked at again are told before, since
-    /// its own thread may be one of them. Tickets of processes that have ended are among them, so that each is handed out once more and is
-    /// dropped.
-    pub fn take_back(&mut self, ticket: T, back: Back, child: Option<T>, moment: u64) {
+    /// Takes a ticket back from the worker that had it, and before it that of the child that was made with it, if one was. What is given back is
+    /// to be dropped once the board's lock is left: the last ticket of a process drops its memory.
+    pub fn take_back(&mut self, ticket: T, back: Back, child: Option<T>) -> Option<T> {
         self.end_work();
         if let Some(child) = child {
             self.put(child);
         }
-        self.place(ticket, back);
-        self.queue.revive_due(moment);
+        self.place(ticket, back)
     }
 
-    /// Takes what came of time from the worker that was to let it go on: where it went on to a moment, threads whose deadline has come are
-    /// ready. Where some thread is ready already, or none is found, all threads that wait are looked at again.
+    /// Takes what came of time from the worker that was to let it go on. Where it went on, or a thread is ready already, the kernel is to be
+    /// asked for those that are.
     pub fn take_passed(&mut self, passed: Passed) {
         self.end_work();
         match passed {
-            Passed::To(moment) => {
-                self.queue.revive_due(moment);
-                if !self.has_free() {
-                    self.queue.revive_all();
-                }
-            }
-            Passed::Busy => self.queue.revive_all(),
+            Passed::Jumped | Passed::Busy => self.asking.tell(),
             Passed::Stopped => self.stops = true,
         }
+    }
+
+    /// Takes the kernel's answer from the worker that was to ask. The parked ticket of the thread that it names is the worker's next task, if its
+    /// process is free, and else becomes ready. One that a worker has is handed out once more where it comes back as that of a thread that
+    /// waits.
+    pub fn take_asked(&mut self, found: Option<(Pid, Tid)>) {
+        self.end_work();
+        if let Some(thread) = &found {
+            self.take_ready(thread.0, thread.1);
+        }
+        self.asking.end(found);
+    }
+
+    // Sees to the ticket of a ready thread. One that is ready already stays where it is.
+    fn take_ready(&mut self, pid: Pid, tid: Tid) {
+        if self.outside.has(pid) {
+            if self.queue.revive(pid, tid) {
+                self.asking.bring();
+            } else {
+                self.outside.mark(pid, tid);
+            }
+        } else if let Some(ticket) = self.queue.take_parked(pid, tid) {
+            self.asking.bring();
+            self.found = Some(ticket);
+        }
+    }
+
+    /// Takes out the ticket of a thread that has ended while it waited, if it is parked. It is to be dropped once the board's lock is left. One
+    /// that isn't parked is ready, or comes back as that of a thread that waits: so it is handed out once more, and given back then.
+    pub fn drop_parked(&mut self, pid: Pid, tid: Tid) -> Option<T> {
+        let ticket = self.queue.take_parked(pid, tid);
+        if ticket.is_none() {
+            self.outside.mark(pid, tid);
+        }
+        ticket
     }
 
     // Whether a ticket is ready whose process no worker has.
@@ -177,10 +211,30 @@ impl<T: SharedTicket> Board<T> {
         Task::Run(ticket)
     }
 
-    // What a worker is to do: the ticket that has been ready longest is run of those whose process no other worker has, since two workers of
-    // one process would fight for its memory lock. Where none is ready, none is at work and some are parked, time is to go on.
+    // Whether the kernel may be asked. Where all parked tickets are of processes that workers have, no answer brings a task: then it is asked
+    // once one of them is back.
+    fn may_ask(&self) -> bool {
+        self.asking.is_due() && self.queue.has_parked(self.outside.busy())
+    }
+
+    // Whether it is asked now. Where a ticket is ready, that has its turn before the next answer.
+    fn asks(&self) -> bool {
+        self.may_ask() && !(self.asked_last && self.has_free())
+    }
+
+    // What a worker is to do: what was found as it asked; or to ask; or the ticket that has been ready longest of those whose process no other
+    // worker has, since two workers of one process would fight for its memory lock. Where none is ready, nobody is to be asked for, none is at
+    // work and some are parked, time is to go on.
     fn task(&mut self) -> Task<T> {
+        if let Some(ticket) = self.found.take() {
+            return self.lend(ticket);
+        }
+        if self.asks() {
+            self.asked_last = true;
+            return Task::Ask(self.asking.begin());
+        }
         if let Some(ticket) = self.queue.take_free(self.outside.busy()) {
+            self.asked_last = false;
             return self.lend(ticket);
         }
         if self.at_work == 0 && self.queue.parked_count() > 0 {
@@ -201,10 +255,15 @@ impl<T: SharedTicket> Board<T> {
         task
     }
 
-    /// Whether a worker is to wait: no ticket of a free process is ready, but some worker is at work, by which one may come back or be made
-    /// ready, or a process become free.
+    // Whether there is a task for a worker beside those that are at work.
+    fn has_task(&self) -> bool {
+        self.found.is_some() || self.may_ask() || self.has_free()
+    }
+
+    /// Whether a worker is to wait: no ticket of a free process is ready, and no answer of the kernel can bring one. But some worker is at work,
+    /// by which a ticket may come back, a process become free, or something be told.
     pub fn waits(&self) -> bool {
-        !self.stops && self.at_work > 0 && !self.has_free()
+        !self.stops && self.at_work > 0 && !self.has_task()
     }
 
     /// Counts a worker that begins to wait.
@@ -217,13 +276,13 @@ impl<T: SharedTicket> Board<T> {
         self.waiting = self.waiting.saturating_sub(1);
     }
 
-    /// Whether a worker waits that need wait no more, and so is to be woken. It is asked after each `take_back`, `take_passed` and `hand_out`,
-    /// under the lock under which these were.
-    // No worker waits in vain. Tickets become ready, processes free and workers fewer by `take_back` and `take_passed`, and by what is told
-    // before them under the same lock, and `hand_out` only makes a process busy, or stops all. Who comes with one of the two takes the first
-    // free ticket itself, also one of the process that it brought back. If another free one is left then, or all are to leave, one that waits
-    // is woken, takes the next, and is asked the same. If somebody else takes that ticket before, it waits on, and that one is asked.
+    /// Whether a worker waits that need wait no more, and so is to be woken. It is asked after each `take_back`, `take_passed`, `take_asked` and
+    /// `hand_out`, under the lock under which these were. While a worker asks the kernel none is woken: it comes back at once.
+    // No worker waits in vain. Tickets become ready, processes free, workers fewer and the kernel is to be asked by what is taken and told, and
+    // `hand_out` only makes a process busy, or has the kernel asked, or stops all. Who comes with one of these takes the first task itself. If
+    // another one is left then, or all are to leave, one that waits is woken, takes the next, and is asked the same. If somebody else takes that
+    // task before, it waits on, and that one is asked. Who asks the kernel comes with its answer, and wakes then whom nobody woke meanwhile.
     pub fn rings(&self) -> bool {
-        self.waiting > 0 && !self.waits()
+        self.waiting > 0 && !self.asking.is_under_way() && !self.waits()
     }
 }

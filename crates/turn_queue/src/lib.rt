@@ -5,6 +5,7 @@
 pub use board::{Back, Board, Passed, SharedTicket, Task};
 pub use queue::{Queue, Ticket};
 
+mod asking;
 mod board;
 mod outside;
 mod queue;

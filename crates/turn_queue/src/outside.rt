@@ -2,12 +2,12 @@
 use abi_base::{Pid, Tid};
 use std::alloc::{AllocError, Global};
 
-// The ticket of this thread, and whether the thread is to be looked at again even if it waits when the ticket is back.
+// The ticket of this thread, and whether it is to be handed out again even if the thread waits when the ticket is back.
 #[derive(Clone, Copy, Drop)]
 struct Lent {
     pid: Pid,
     tid: Tid,
-    wake: bool,
+    again: bool,
 }
 
 /// Whose tickets workers have. There is room for a ticket of each worker from the start, so that none takes memory.
@@ -30,41 +30,39 @@ impl Outside {
         self.busy.as_slice()
     }
 
+    /// Whether one of them is of this process.
+    pub fn has(&self, pid: Pid) -> bool {
+        self.busy.iter().any(|other| other.0 == pid.0)
+    }
+
     /// Enters the ticket of a thread. `Err` where there is no room for it and memory ran out.
     pub fn enter(&mut self, pid: Pid, tid: Tid) -> Result<(), AllocError> {
         self.busy.push(pid)?;
         self.lent.push(Lent {
             pid,
             tid,
-            wake: false,
+            again: false,
         })?;
         Ok(())
     }
 
-    /// Takes the ticket of this process off. Whether its thread is to be looked at again.
+    /// Takes the ticket of this process off. Whether it is to be handed out again.
     pub fn leave(&mut self, pid: Pid) -> bool {
-        let wake = self
+        let again = self
             .lent
             .iter()
-            .any(|lent| lent.pid.0 == pid.0 && lent.wake);
+            .any(|lent| lent.pid.0 == pid.0 && lent.again);
         self.busy.retain(|other| other.0 != pid.0);
         self.lent.retain(|lent| lent.pid.0 != pid.0);
-        wake
+        again
     }
 
-    /// Notes that a thread is to be looked at again, if its ticket is one of these.
+    /// Notes that the ticket of a thread is to be handed out again, if it is one of these.
     pub fn mark(&mut self, pid: Pid, tid: Tid) {
         for lent in self.lent.iter_mut() {
             if lent.pid.0 == pid.0 && lent.tid.0 == tid.0 {
-                lent.wake = true;
+                lent.again = true;
             }
-        }
-    }
-
-    /// Notes that of all threads.
-    pub fn mark_all(&mut self) {
-        for lent in self.lent.iter_mut() {
-            lent.wake = true;
         }
     }
 }

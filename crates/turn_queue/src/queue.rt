@@ -1,9 +1,11 @@
-//! A queue of tickets: those that are ready, first come first served, and those that are parked until they are revived.
-ghost use Rattle.std.specs.Prelude.{◌≡◌, ◌==◌, ℕ, [], ◌∷◌, ◌++◌, length, map, position, OnOk, IfErr, IfSome, IfNone};
+//! A queue of tickets: those that are ready, first come first served, and those that are parked, which are found by their threads.
+ghost use Rattle.std.specs.Prelude.{◌≡◌, ◌==◌, ◌++◌, ◌/◌, ◌*◌, ◌+◌, ◌-◌, ◌^◌, true, false, ℕ, [], ◌∷◌, position, OnOk, IfErr, IfSome, IfNone};
+ghost use Rattle.std.specs.FinMap as map;
 ghost use Rattle.std.specs.List.{list_any};
-ghost use Rattle.turn_queue.specs.Tickets.{none, is_free, is_ticket_of, ticket_of, moment_of, AreInOrder, IsPlace, NoneFree, Parks, RevivesDue, IsRevived, TakesFree};
+ghost use Rattle.turn_queue.specs.Tickets.{none, number_of, is_free, revived, with_parked, without, IsTicketOf, NoneFree, NoneParked, SomeParked, TakesFree};
 
 use abi_base::{Pid, Tid};
+use maps::NumMap;
 use std::alloc::Global;
 use std::collections::VecDeque;
 use std::marker::Model;
@@ -25,20 +27,13 @@ pub trait Ticket {
         ensures { result ≡ thread self.now };
 }
 
-/// A ticket that is parked until some moment, or until it is revived for another reason.
-#[derive(Drop)]
-pub struct Parked<T> {
-    pub until: u64,
-    pub ticket: T,
-}
-
-/// Tickets that are ready and tickets that are parked, which contracts see as two lists. Each ticket is in one place: it is ready,
-/// or parked, or outside with who took it. Those that are parked stand in the order of the moments until which they are. There is always
-/// room to make every parked ticket ready.
+/// Tickets that are ready, which contracts see as a list, and tickets that are parked, which they see as a finite map from the numbers of
+/// threads. Each ticket is in one place: it is ready, or parked, or outside with who took it. There is always room to make every parked ticket
+/// ready.
 #[derive(Drop)]
 pub struct Queue<T: Ticket> {
     ready: VecDeque<T, Global>,
-    parked: VecDeque<Parked<T>, Global>,
+    parked: NumMap<T>,
 }
 
 impl<T: Ticket> Model for Queue<T> {
@@ -46,12 +41,16 @@ impl<T: Ticket> Model for Queue<T> {
 
     ghost Value = { Tickets T };
 
+    ghost use Rattle.turn_queue.specs.Codes.{tickets_code};
+
+    ghost coded = { tickets_code T.code };
+
     ghost use Rattle.turn_queue.specs.Tickets.{IsQueue};
     ghost use Rattle.std.specs.VecDeque.{deque_len, deque_capacity};
 
-    ghost view = { λ q. record { ready = q.ready.items; parked = q.parked.items } };
+    ghost view = { λ q. record { ready = q.ready.items; parked = q.parked } };
 
-    ghost invariant = { λ q. IsQueue (deque_len q.ready) (deque_len q.parked) (deque_capacity q.ready) q.parked.items };
+    ghost invariant = { λ q. IsQueue T.process T.thread (deque_len q.ready) (deque_capacity q.ready) q.parked };
 }
 
 impl<T: Ticket> Queue<T> {
@@ -61,7 +60,7 @@ impl<T: Ticket> Queue<T> {
     {
         Queue {
             ready: VecDeque::new(alloc),
-            parked: VecDeque::new(alloc),
+            parked: NumMap::new(alloc),
         }
     }
 
@@ -74,9 +73,24 @@ impl<T: Ticket> Queue<T> {
 
     /// How many tickets are parked.
     pub fn parked_count(&self) -> usize
-        ensures { result ≡ length self.now.parked }
+        ensures { result ≡ map.len self.now.parked }
     {
         self.parked.len()
+    }
+
+    /// Whether a ticket is parked whose process is none of these. It looks at one ticket of each process alone.
+    pub fn has_parked(&self, busy: &[Pid]) -> bool
+        ensures some { result ≡ true → SomeParked T.process busy.now self.now.parked }
+        ensures none { result ≡ false → NoneParked T.process busy.now self.now.parked }
+    {
+        let mut next = self.parked.first_from(0);
+        while let Some(number) = next {
+            if !has(busy, process_of(number)) {
+                return true;
+            }
+            next = self.parked.first_after(last_beside(number));
+        }
+        false
     }
 
     /// Puts a ticket behind those that are ready. `Err` gives it back where memory ran out.
@@ -103,74 +117,67 @@ impl<T: Ticket> Queue<T> {
         self.ready.remove(at)
     }
 
-    /// Parks a ticket until this moment, behind those that are parked no longer. One that is parked until no moment stands behind all that
-    /// are. `Err` gives the ticket back where memory ran out.
-    pub fn park(&mut self, ticket: T, until: Option<u64>) -> Result<(), T>
-        ensures ok { OnOk result (Parks (moment_of until) ticket self.old self.new) }
+    /// Parks a ticket. One of the same thread that is parked already becomes ready, behind those that are. `Err` gives the ticket back where
+    /// memory ran out.
+    pub fn park(&mut self, ticket: T) -> Result<(), T>
+        ensures ok { OnOk result (self.new ≡ with_parked (number_of (T.process ticket) (T.thread ticket)) ticket self.old) }
         ensures err { IfErr result (λ back. (back ≡ ticket) × (self.new ≡ self.old)) }
     {
         let Ok(()) = self.ready.reserve(self.parked.len() + 1) else {
             return Err(ticket);
         };
-        let until = until.unwrap_or(u64::MAX);
-        let place = place_for(&self.parked, until);
-        match self.parked.insert(place, Parked { until, ticket }) {
-            Ok(()) => Ok(()),
-            Err(failed) => Err(failed.value.ticket),
-        }
-    }
-
-    /// Makes the tickets ready, behind those that are, whose moment has come. It takes no memory, and the others
-    /// cost no more than a search for the first of them.
-    #[tactic(auto, using(crate::proofs::Orders::order_behind))]
-    pub fn revive_due(&mut self, now: u64)
-        ensures { RevivesDue now self.old self.new }
-    {
-        let due = place_for(&self.parked, now);
-        for _ in 0..due {
-            if let Some(parked) = self.parked.pop_front() {
-                self.ready.push_back_reserved(parked.ticket);
+        let number = number_of(ticket.pid(), ticket.tid());
+        match self.parked.insert(number, ticket) {
+            Ok(None) => Ok(()),
+            Ok(Some(other)) => {
+                self.ready.push_back_reserved(other);
+                Ok(())
             }
+            Err(failed) => Err(failed.value.1),
         }
     }
 
-    /// Makes the first ticket of a thread that is parked ready, behind those that are. It takes no memory, and says whether there was one.
-    pub fn revive(&mut self, pid: Pid, tid: Tid) -> bool
-        ensures { IsRevived T.process T.thread pid tid self.old self.new result }
+    /// Takes the parked ticket of a thread. `None` exactly where none is parked of it.
+    pub fn take_parked(&mut self, pid: Pid, tid: Tid) -> Option<T>
+        ensures value { result ≡ map.get self.old.parked (number_of pid tid) }
+        ensures whose { IfSome result (IsTicketOf T.process T.thread pid tid) }
+        ensures new { self.new ≡ without (number_of pid tid) self.old }
     {
-        let Some(at) = place_of(&self.parked, pid, tid) else {
+        self.parked.remove(number_of(pid, tid))
+    }
+
+    /// Makes the parked ticket of a thread ready, behind those that are. It takes no memory, and says whether there was one.
+    pub fn revive(&mut self, pid: Pid, tid: Tid) -> bool
+        ensures value { result ≡ map.contains_key self.old.parked (number_of pid tid) }
+        ensures new { self.new ≡ revived (number_of pid tid) self.old }
+    {
+        let Some(ticket) = self.parked.remove(number_of(pid, tid)) else {
             return false;
         };
-        if let Some(parked) = self.parked.remove(at) {
-            self.ready.push_back_reserved(parked.ticket);
-        }
+        self.ready.push_back_reserved(ticket);
         true
     }
-
-    /// Makes all parked tickets ready, behind those that are, in their order. It takes no memory.
-    pub fn revive_all(&mut self)
-        ensures { self.new ≡ record { ready = self.old.ready ++ map ticket_of self.old.parked; parked = [] } }
-    {
-        while let Some(parked) = self.parked.pop_front() {
-            self.ready.push_back_reserved(parked.ticket);
-        }
-    }
 }
 
-// The place of a ticket that is parked until this moment: behind those that are parked no longer.
-fn place_for<T: Ticket>(tickets: &VecDeque<Parked<T>, Global>, until: u64) -> usize
-    requires { AreInOrder tickets.now.items }
-    ensures { IsPlace until tickets.now.items result }
+// The number of a thread of all threads.
+fn number_of(pid: Pid, tid: Tid) -> u64
+    ensures { result ≡ number_of pid tid }
 {
-    tickets.partition_point(|parked| parked.until <= until)
+    u64::from(pid.0) * 0x1_0000_0000 + u64::from(tid.0)
 }
 
-// The place of the first ticket that is of the thread.
-fn place_of<T: Ticket>(tickets: &VecDeque<Parked<T>, Global>, pid: Pid, tid: Tid) -> Option<usize>
-    ensures { result ≡ position (is_ticket_of T.process T.thread pid tid) tickets.now.items }
+// The process whose thread has this number.
+fn process_of(number: u64) -> Pid
+    ensures { result ≡ number / 2 ^ 32 }
 {
-    tickets.iter().position(|parked| parked.ticket.pid().0 == pid.0
-        && parked.ticket.tid().0 == tid.0)
+    Pid((number / 0x1_0000_0000) as u32)
+}
+
+// The last number that a thread of the same process may have.
+fn last_beside(number: u64) -> u64
+    ensures { result ≡ number / 2 ^ 32 * 2 ^ 32 + (2 ^ 32 - 1) }
+{
+    number / 0x1_0000_0000 * 0x1_0000_0000 + 0xffff_ffff
 }
 
 // Whether the process is one of these.

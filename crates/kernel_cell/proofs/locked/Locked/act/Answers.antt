@@ -7,7 +7,7 @@ use Rattle.kernel_cell.specs.Acting.{Became, IsActedOn, MayCome}
 use Rattle.kernel_cell.specs.Recorded.{IsRecorded}
 use Rattle.kernel_cell.specs.declared.results.After.{After}
 use Rattle.kernel_cell.proofs.PassOutcomes.{acted_here, asks_here, is_seen, seen_here}
-use Rattle.kernel_cell.proofs.RecordedSteps.{tells_there}
+use Rattle.kernel_cell.proofs.RecordedSteps.{deadlines_there}
 use Rattle.kernel_cell.proofs.locked.Locked.act.Goals as goal
 
 pub enter-came-requires-clause-recorded : goal.enter-came-requires-clause-recorded
@@ -40,7 +40,7 @@ pub returns-clause-recorded : goal.returns-clause-recorded
 returns-clause-recorded g c =
     let it = c.enter-came.new.self in
     subst (λ (x : List Entry × State). IsRecorded g.J.Naming.launch g.J.Naming.keeps_all x.0 x.1 it.constants it.kept)
-    (λ i. (sym (ap (λ k. k.log) c.hand_out.ensures.keeper) i, sym c.tell_times.ensures.same i)) c.enter-came.ensures.recorded
+    (λ i. (sym (ap (λ k. k.log) c.hand_out.ensures.keeper) i, sym c.tell_news.ensures i)) c.enter-came.ensures.recorded
 
 pub returns-clause-pass : goal.returns-clause-pass
 returns-clause-pass g c =
@@ -72,8 +72,5 @@ returns-clause-history g c =
 pub returns-clause-seen : goal.returns-clause-seen
 returns-clause-seen g c = ap (λ v. v.seen) (c.drop.view_is ∙ c.hand_out.ensures.pass) ∙ sym (ap (λ k. k.log) c.hand_out.ensures.keeper)
 
-pub returns-clause-times : goal.returns-clause-times
-returns-clause-times g c =
-    tells_there c.enter-came.ensures.recorded c.pass.inside.pid c.args.pass.now.pid c.args.tid (seen_of c.drop.inside.badge.views) c.args.what
-    c.enter-came.result c.keeps_worker-may.result c.stays-stays.result c.args.told.now c.tell_times.new.told c.tell_times.ensures.told c.keeps_worker-may.ensures
-    c.stays-stays.ensures (ap (λ v. v.seen) (c.drop.view_is ∙ c.hand_out.ensures.pass)) (ap (λ v. v.pid) c.pass.view_is)
+pub tell_news-requires : goal.tell_news-requires
+tell_news-requires g c = deadlines_there c.enter-came.ensures.recorded

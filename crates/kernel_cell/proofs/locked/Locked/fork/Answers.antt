@@ -6,7 +6,7 @@ use Rattle.kernel_cell.specs.Acting.{HasForked, HasSeen, IsForkedOn, by_number}
 use Rattle.kernel_cell.specs.Recorded.{IsRecorded}
 use Rattle.kernel_cell.specs.declared.results.Asked.TheVariants as asked
 use Rattle.kernel_cell.proofs.PassOutcomes.{asks_call_here, first_held, fork_hands, fork_seen, held_then, is_seen, none_behind, seen_here}
-use Rattle.kernel_cell.proofs.RecordedSteps.{told_there}
+use Rattle.kernel_cell.proofs.RecordedSteps.{deadlines_there}
 use Rattle.kernel_cell.proofs.locked.Locked.fork.Goals as goal
 
 pub make_child-forked-requires-clause-recorded : goal.make_child-forked-requires-clause-recorded
@@ -58,7 +58,7 @@ pub returns-clause-recorded : goal.returns-clause-recorded
 returns-clause-recorded g c =
     let it = c.make_child-forked.new.self in
     subst (λ (x : List Entry × State). IsRecorded g.J.Naming.launch g.J.Naming.keeps_all x.0 x.1 it.constants it.kept)
-    (λ i. (sym (ap (λ k. k.log) c.hand_out.ensures.keeper ∙ ap (λ k. k.log) c.with_pass-child.ensures.keeper) i, sym c.tell_times.ensures.same i))
+    (λ i. (sym (ap (λ k. k.log) c.hand_out.ensures.keeper ∙ ap (λ k. k.log) c.with_pass-child.ensures.keeper) i, sym c.tell_news.ensures i))
     c.make_child-forked.ensures.recorded
 
 pub returns-clause-pass : goal.returns-clause-pass
@@ -84,8 +84,5 @@ returns-clause-pass g c =
 pub returns-clause-seen : goal.returns-clause-seen
 returns-clause-seen g c = ap (λ v. v.seen) (c.drop.view_is ∙ c.hand_out.ensures.pass) ∙ sym (ap (λ k. k.log) c.hand_out.ensures.keeper)
 
-pub returns-clause-times : goal.returns-clause-times
-returns-clause-times g c =
-    told_there c.make_child-forked.ensures.recorded c.pass.inside.pid c.args.pass.now.pid c.args.tid (seen_of c.drop.inside.badge.views) c.args.told.now
-    c.tell_times.new.told c.tell_times.ensures.told
-    (ap (λ v. v.seen) (c.drop.view_is ∙ c.hand_out.ensures.pass) ∙ ap (λ k. k.log) c.with_pass-child.ensures.keeper) (ap (λ v. v.pid) c.pass.view_is)
+pub tell_news-requires : goal.tell_news-requires
+tell_news-requires g c = deadlines_there c.make_child-forked.ensures.recorded

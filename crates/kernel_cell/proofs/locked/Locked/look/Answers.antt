@@ -24,9 +24,9 @@ returns-clause-pass g c =
     let u : Passing = record { pid = c.pass.inside.pid; seen = seen_of c.pass.inside.badge.views } in
     let later = subst (λ (x : Passing). Later x.pid x.seen log) c.lent.ensures c.take_in.ensures.later in
     after_look g.J.Naming.launch u c.args.pass.now (record { pid = c.drop.inside.pid; seen = seen_of c.drop.inside.badge.views }) log c.args.self.now.kernel
-    c.live.result c.moment.result c.pass.view_is c.requires.recorded.legal c.pass.invariant.seen later
+    c.live.result c.pass.view_is c.requires.recorded.legal c.pass.invariant.seen later
     (c.drop.view_is ∙ c.hand_out.ensures.pass ∙ ap (λ k. record { pid = u.pid; seen = k.log }) c.take_in.ensures.keeper) c.requires.recorded.state
-    c.live.ensures c.moment.ensures
+    c.live.ensures
 
 pub returns-clause-history : goal.returns-clause-history
 returns-clause-history g c = ap (λ k. k.log) c.hand_out.ensures.keeper ∙ ap (λ k. k.log) c.take_in.ensures.keeper

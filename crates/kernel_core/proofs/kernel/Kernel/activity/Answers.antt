@@ -56,7 +56,7 @@ returns c =
     let constants = c.args.constants.now in
     let T = the_view c.self.inside in
     subst (λ (S : State). IsActivity (does constants S) (λ i. IsPast c.loop-p.last i.0) c.loop-p.found → ThreadsDo constants S c.loop-p.found) c.self.view_is
-    (λ before. threads_do constants T c.loop-p.found c.self.invariant.valid
+    (λ before. threads_do constants T c.loop-p.found c.self.invariant.kept.valid
     (are_all T.processes c.loop-p.last _ (does constants T) (λ i. i.0) (λ i none. ap (activity_by constants T.opens T.chans T.statuses T.clock (get T.tables i.0)) (no_thread_by T i.0 i.1 none))
     c.loop-p.found c.in_default.ensures before))
     c.loop-p.invariant

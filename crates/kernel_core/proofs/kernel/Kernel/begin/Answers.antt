@@ -1,4 +1,4 @@
-use Rattle.std.proofs.Common.{◌≡◌, ℕ, ◌^◌, Some, IsSome, is_some, sym, ap, subst, ◌∙◌}
+use Rattle.std.proofs.Common.{◌≡◌, ℕ, ◌^◌, Some, IsSome, is_some, refl, sym, ap, subst, ◌∙◌}
 use Rattle.std.specs.Ordering.{nat_cmp}
 use Rattle.std.specs.FinMap.{FinMap, get, insert}
 use Rattle.abi_types.specs.declared.open_kind.OpenKind.{OpenKind}
@@ -15,7 +15,8 @@ use Rattle.kernel_parts.specs.Released.{state_by}
 use Rattle.process_calls.specs.Forks.{IsOpenOf}
 use Rattle.kernel_core.specs.Programs.{begun_updates}
 use Rattle.kernel_core.specs.contracts.kernel.Kernel.{the_view}
-use Rattle.kernel_core.proofs.Released.{kept_released, released_to}
+use Rattle.kernel_core.proofs.HeldEnds.{begun_is_held, process_few, released_is_held}
+use Rattle.kernel_core.proofs.Released.{kept_released, parts, released_to}
 use Rattle.kernel_core.proofs.Channels.{AreCounted, covered_alone, table_counts}
 use Rattle.kernel_core.proofs.ForkCalls.{counts_room, opens_counted}
 use Rattle.kernel_core.proofs.Kept.{small_set}
@@ -40,16 +41,16 @@ begin_anew-requires d =
 pub put_table-requires-clause-covered : goal.put_table-requires-clause-covered
 put_table-requires-clause-covered c =
     covered_alone c.self.inside.tables c.from-p.result c.get_mut.result.now (sym c.get_mut.ensures.value) c.self.inside.channels c.self.inside.objects.counts
-    c.self.invariant.counted
+    c.self.invariant.kept.counted
 
 pub put_table-requires-clause-counted : goal.put_table-requires-clause-counted
-put_table-requires-clause-counted c = opens_counted (the_view c.self.inside) c.self.inside.objects.counts c.self.invariant
+put_table-requires-clause-counted c = opens_counted (the_view c.self.inside) c.self.inside.objects.counts c.self.invariant.kept
 
 pub put_table-requires-clause-opens : goal.put_table-requires-clause-opens
 put_table-requires-clause-opens c = λ n. subst (λ (S : State). IsOpenOf S.opens (get c.args.table n)) (sym c.self.view_is) (c.requires.opens n)
 
 pub put_table-requires-clause-few : goal.put_table-requires-clause-few
-put_table-requires-clause-few c = counts_room (the_view c.self.inside) c.self.inside.objects.counts c.self.invariant
+put_table-requires-clause-few c = counts_room (the_view c.self.inside) c.self.inside.objects.counts c.self.invariant.kept
 
 -- the fields as they are in the end
 abbrev fields : After-release → State
@@ -67,8 +68,11 @@ fields c = record (the_view c.self.inside) {
 abbrev unreleased : After-release → State
 unreleased c = put_all (begun_updates c.args.pid c.args.tid c.get_mut-own.result.now c.args.table) (the_view c.self.inside)
 
-after : (c : After-release) → fields c ≡ release (unreleased c)
-after c =
+-- the release is given that
+given : (c : After-release)
+    → state_by (insert c.self.inside.tables c.from-p.result c.put_table.new.table) (insert c.self.inside.processes c.from-p.result c.begin_anew.new.self) c.self.inside.statuses
+    c.put_table.new.objects.kinds c.self.inside.channels c.self.inside.tree ≡ parts (unreleased c)
+given c =
     let k = c.self.inside in
     let same : c.from-p.result ≡ c.args.pid = c.from-p.ensures ∙ c.pid.view_is in
     let new : ProcessState = begun_anew canary_words c.args.tid c.get_mut-own.result.now in
@@ -76,49 +80,62 @@ after c =
     ap (insert k.processes c.from-p.result) c.begin_anew.ensures ∙ ap (λ (p : ℕ). insert k.processes p new) same in
     let tables : insert k.tables c.from-p.result c.put_table.new.table ≡ insert k.tables c.args.pid c.args.table =
     ap (insert k.tables c.from-p.result) c.put_table.ensures.table ∙ ap (λ (p : ℕ). insert k.tables p c.args.table) same in
-    released_to (unreleased c) _ _ (λ i. state_by (tables i) (own i) k.statuses (c.put_table.ensures.kinds i) (c.wake_waiting.ensures i) k.tree) c.release.ensures.state
+    λ i. state_by (tables i) (own i) k.statuses (c.put_table.ensures.kinds i) k.channels k.tree
+
+after : (c : After-release) → fields c ≡ release (unreleased c)
+after c = released_to (unreleased c) _ _ (given c) c.release.ensures.state
 
 pub release-requires-clause-counted : goal.release-requires-clause-counted
 release-requires-clause-counted c =
-    subst (λ (chans : Channels). AreCounted c.put_table.new.objects.counts (insert c.self.inside.tables c.from-p.result c.put_table.new.table) chans)
-    (sym c.wake_waiting.ensures)
-    (table_counts c.self.inside.tables c.from-p.result c.get_mut.result.now (sym c.get_mut.ensures.value) c.self.inside.channels c.self.inside.objects.counts
-    c.self.invariant.counted c.put_table.new.table c.put_table.new.objects.counts c.put_table.ensures.counts)
+    table_counts c.self.inside.tables c.from-p.result c.get_mut.result.now (sym c.get_mut.ensures.value) c.self.inside.channels c.self.inside.objects.counts
+    c.self.invariant.kept.counted c.put_table.new.table c.put_table.new.objects.counts c.put_table.ensures.counts
 
 pub release-requires-clause-tables : goal.release-requires-clause-tables
 release-requires-clause-tables c = λ q.
     some_again c.self.inside.tables c.from-p.result c.get_mut.result.now c.put_table.new.table q (sym c.get_mut.ensures.value)
-    ∙ c.self.invariant.valid.nearly.tables q
+    ∙ c.self.invariant.kept.valid.nearly.tables q
 
 pub release-requires-clause-processes : goal.release-requires-clause-processes
 release-requires-clause-processes c = λ q.
     some_again c.self.inside.processes c.from-p.result c.get_mut-own.result.now c.begin_anew.new.self q (sym c.get_mut-own.ensures.value)
-    ∙ c.self.invariant.valid.nearly.owns q
+    ∙ c.self.invariant.kept.valid.nearly.owns q
 
 pub release-requires-clause-used : goal.release-requires-clause-used
 release-requires-clause-used c = λ n there.
-    ap (λ (m : FinMap nat_cmp OpenKind). is_used m c.self.inside.tree n) c.put_table.ensures.kinds ∙ c.self.invariant.valid.kept n there
+    ap (λ (m : FinMap nat_cmp OpenKind). is_used m c.self.inside.tree n) c.put_table.ensures.kinds ∙ c.self.invariant.kept.valid.kept n there
 
 pub release-requires-clause-going : goal.release-requires-clause-going
-release-requires-clause-going c = subst AllGoOn (sym c.wake_waiting.ensures) c.self.invariant.valid.going
+release-requires-clause-going c = c.self.invariant.kept.valid.going
 
 pub release-requires-clause-tree : goal.release-requires-clause-tree
-release-requires-clause-tree c = c.self.invariant.valid.nearly.tree
+release-requires-clause-tree c = c.self.invariant.kept.valid.nearly.tree
 
 pub invariant_of-self : goal.invariant_of-self
-invariant_of-self d =
-    let a = (goal.at.invariant_of-self d).After-release in
-    let g = (goal.at.invariant_of-self d).After-get_mut-own in
-    let k = a.self.inside in
-    let there : IsSome (get k.tables a.args.pid) =
-    ap (λ p. is_some (get k.tables p)) (sym (same g)) ∙ ap is_some (sym a.get_mut.ensures.value) in
-    let nearly : IsNearlyValid (unreleased a) =
-    subst (λ S. IsNearlyValid (put_all (begun_updates a.args.pid a.args.tid a.get_mut-own.result.now a.args.table) S)) (sym a.self.view_is)
-    (a.requires.nearly a.get_mut-own.result.now (seen g)) in
-    kept_released (unreleased a) (fields a) a.release.new.objects.counts (after a) nearly a.release.ensures.counted
-    (a.release.ensures.few (subst AreFew (sym a.wake_waiting.ensures) a.self.invariant.few))
-    (small_set k.tables a.args.pid a.args.table a.self.invariant.small a.requires.small)
-    (below-insert_again (2 ^ 32) k.tables a.args.pid a.args.table a.self.invariant.processes there)
+invariant_of-self d = record {
+  kept =
+      let a = (goal.at.invariant_of-self d).After-release in
+      let g = (goal.at.invariant_of-self d).After-get_mut-own in
+      let k = a.self.inside in
+      let there : IsSome (get k.tables a.args.pid) =
+      ap (λ p. is_some (get k.tables p)) (sym (same g)) ∙ ap is_some (sym a.get_mut.ensures.value) in
+      let nearly : IsNearlyValid (unreleased a) =
+      subst (λ S. IsNearlyValid (put_all (begun_updates a.args.pid a.args.tid a.get_mut-own.result.now a.args.table) S)) (sym a.self.view_is)
+      (a.requires.nearly a.get_mut-own.result.now (seen g)) in
+      kept_released (unreleased a) (fields a) a.release.new.objects.counts (after a) nearly a.release.ensures.counted
+      (a.release.ensures.few a.self.invariant.kept.few)
+      (small_set k.tables a.args.pid a.args.table a.self.invariant.kept.small a.requires.small)
+      (below-insert_again (2 ^ 32) k.tables a.args.pid a.args.table a.self.invariant.kept.processes there);
+  waits =
+      let a = (goal.at.invariant_of-self d).After-release in
+      let g = (goal.at.invariant_of-self d).After-get_mut-own in
+      let k = a.self.inside in
+      let own : ProcessState = a.get_mut-own.result.now in
+      released_is_held (unreleased a) (fields a) _ a.touch_numbers.new.waits a.release.new.waits (given a)
+      (begun_is_held (the_view k) a.args.pid a.args.tid canary_words own a.args.table k.waits a.keep_thread.new.waits a.touch_numbers.new.waits
+      (process_few (the_view k) k.objects.counts a.args.pid a.self.invariant.kept (ap is_some (owned g))) (owned g) a.keep_thread.ensures a.touch_numbers.ensures
+      a.self.invariant.waits)
+      a.release.ensures.touched refl;
+}
 
 pub returns : goal.returns
 returns d = λ own here.

@@ -1,12 +1,16 @@
-use Rattle.std.proofs.Common.{◌≡◌, Some, sym, ap, subst, ◌∙◌}
+use Rattle.std.proofs.Common.{◌≡◌, Some, IsSome, sym, ap, subst, ◌∙◌}
 use Rattle.std.specs.FinMap.{get, insert}
 use Rattle.abi_types.specs.declared.thread.Thread.{Thread}
 use Rattle.abi_types.specs.declared.who.Who.{Who}
-use Rattle.kernel_model.specs.State.{State}
+use Rattle.kernel_model.specs.State.{State, thread_of}
 use Rattle.kernel_model.specs.Waits.{thread_set, waiting, with_thread}
 use Rattle.kernel_model.proofs.Parking.{waiting_may}
-use Rattle.kernel_core.specs.Kernel.{IsKept}
+use Rattle.kernel_parts.specs.Keys.{key}
+use Rattle.readiness_laws.specs.Watched.{looked_at}
+use Rattle.kernel_core.specs.Kernel.{AreHeld, IsKept}
+use Rattle.kernel_core.specs.Readiness.{places_by_key, HasStood}
 use Rattle.kernel_core.specs.contracts.kernel.Kernel.{the_view}
+use Rattle.kernel_core.proofs.HeldStanding.{stood_is_held}
 use Rattle.kernel_core.proofs.Parks.{after_kept, set_after}
 use Rattle.kernel_core.proofs.kernel.Kernel.begin_wait.Goals as goal
 use Rattle.kernel_core.proofs.kernel.Kernel.begin_wait.Goals.{After-park}
@@ -30,11 +34,26 @@ put : (c : After-park) → record (the_view c.self.inside) { processes = insert 
 put c = λ i. record (the_view c.self.inside) { processes = insert c.self.inside.processes (same c i) c.park.new.self }
 
 pub invariant_of-self : goal.invariant_of-self
-invariant_of-self d =
-    let c = (goal.at.invariant_of-self d).After-park in
-    subst (λ (S : State). IsKept S c.self.inside.objects.counts) (sym (put c))
-    (after_kept (the_view c.self.inside) c.args.who.now.pid c.args.who.now.tid (thread c) c.get_mut-own.result.now c.park.new.self (there c)
-    c.self.inside.objects.counts (waiting_may c.args.constants.now c.args.kept c.args.who.now c.args.self.now.clock c.requires.may) c.self.invariant (set c))
+invariant_of-self d = record {
+  kept =
+      let c = (goal.at.invariant_of-self d).After-park in
+      subst (λ (S : State). IsKept S c.self.inside.objects.counts) (sym (put c))
+      (after_kept (the_view c.self.inside) c.args.who.now.pid c.args.who.now.tid (thread c) c.get_mut-own.result.now c.park.new.self (there c)
+      c.self.inside.objects.counts (waiting_may c.args.constants.now c.args.kept c.args.who.now c.args.self.now.clock c.requires.may) c.self.invariant.kept (set c));
+  waits =
+      let c = (goal.at.invariant_of-self d).After-park in
+      let S : State = the_view d.self.inside in
+      let p = d.args.who.now.pid in
+      let t = d.args.who.now.tid in
+      let number : d.thread_key.result ≡ key p t = d.thread_key.ensures ∙ ap (λ (w : Who). key p w.tid) d.who.view_is in
+      let is = put c ∙ set_after S p t (thread c) c.get_mut-own.result.now c.park.new.self (there c) (set c) in
+      let at_number = subst (λ k. HasStood k (places_by_key S.opens S.tables (insert S.processes d.from.result d.park.new.self) k) d.self.inside.waits d.stand.new.waits) number d.stand.ensures in
+      subst (λ (T : State). AreHeld (looked_at T) d.stand.new.waits) (sym is)
+      (stood_is_held S d.self.inside.waits d.stand.new.waits p t (thread c) d.self.invariant.waits
+      (subst (λ (T : State). IsSome (thread_of T p t)) (sym d.self.view_is) d.requires.there)
+      (waiting_may d.args.constants.now d.args.kept d.args.who.now d.args.self.now.clock d.requires.may)
+      (subst (λ (T : State). HasStood (key p t) (places_by_key S.opens S.tables T.processes (key p t)) d.self.inside.waits d.stand.new.waits) is at_number));
+}
 
 pub returns : goal.returns
 returns d =

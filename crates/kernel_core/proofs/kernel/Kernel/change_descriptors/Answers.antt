@@ -1,4 +1,4 @@
-use Rattle.std.proofs.Common.{◌≡◌, ℕ, ◌^◌, List, Some, Ok, is_some, sym, ap, subst, ◌∙◌}
+use Rattle.std.proofs.Common.{◌≡◌, ℕ, ◌^◌, List, Some, Ok, is_some, refl, sym, ap, subst, ◌∙◌}
 use Rattle.std.specs.Ordering.{nat_cmp}
 use Rattle.std.specs.FinMap.{FinMap, get, insert}
 use Rattle.abi_types.specs.declared.open_kind.OpenKind.{OpenKind}
@@ -17,6 +17,11 @@ use Rattle.kernel_model.proofs.Valids.{some_again}
 use Rattle.kernel_parts.specs.Released.{state_by}
 use Rattle.kernel_parts.specs.Changes.{change_outcome, opens_after, table_after}
 use Rattle.kernel_core.specs.contracts.kernel.Kernel.{the_view}
+use Rattle.readiness_laws.specs.Watched.{looked_at}
+use Rattle.kernel_core.specs.Kernel.{AreHeld}
+use Rattle.kernel_core.specs.Readiness.{number_changed, open_changed, AreLeftBy}
+use Rattle.kernel_core.proofs.HeldChannels.{held_released}
+use Rattle.kernel_core.proofs.HeldTables.{change_is_held}
 use Rattle.kernel_core.proofs.Released.{kept_released, released_to}
 use Rattle.kernel_core.proofs.Changes.{change_of_own, change_small, change_valid, puts_are}
 use Rattle.kernel_core.proofs.Channels.{counts_few, covered_alone, table_counts}
@@ -29,11 +34,11 @@ use Rattle.kernel_core.proofs.kernel.Kernel.change_descriptors.Goals.{In_err-rep
 pub change_table-requires-clause-covered : goal.change_table-requires-clause-covered
 change_table-requires-clause-covered c =
     covered_alone c.self.inside.tables c.from-p.result c.get_mut.result.now (sym c.get_mut.ensures.value) c.self.inside.channels c.self.inside.objects.counts
-    c.self.invariant.counted
+    c.self.invariant.kept.counted
 
 pub change_table-requires-clause-few : goal.change_table-requires-clause-few
 change_table-requires-clause-few c =
-    counts_few (the_view c.self.inside) c.self.inside.objects.counts c.self.invariant.counted c.self.invariant.small c.self.invariant.processes c.self.invariant.few
+    counts_few (the_view c.self.inside) c.self.inside.objects.counts c.self.invariant.kept.counted c.self.invariant.kept.small c.self.invariant.kept.processes c.self.invariant.kept.few
 
 -- ---- where memory runs out nothing has changed
 
@@ -54,10 +59,13 @@ as_before c = λ i. record (the_view c.self.inside) {
 }
 
 pub invariant_of-self : goal.invariant_of-self
-invariant_of-self d =
-    let c = (goal.at.invariant_of-self d).In_err-reply in
-    kept_again (the_view d.self.inside) d.self.inside.objects.counts d.self.invariant (unchanged c) d.change_table.new.objects.counts (as_before c)
-    (λ o. ap (λ (h : Held). number (get h.counts o)) (d.in_err-reply.ensures.done d.args.pid).3)
+invariant_of-self d = record {
+  kept =
+      let c = (goal.at.invariant_of-self d).In_err-reply in
+      kept_again (the_view d.self.inside) d.self.inside.objects.counts d.self.invariant.kept (unchanged c) d.change_table.new.objects.counts (as_before c)
+      (λ o. ap (λ (h : Held). number (get h.counts o)) (d.in_err-reply.ensures.done d.args.pid).3);
+  waits = subst (λ (U : State). AreHeld (looked_at U) d.self.inside.waits) (sym (as_before (goal.at.invariant_of-self d).In_err-reply)) d.self.invariant.waits;
+}
 
 -- and the change would succeed
 pub returns-in_err-reply : goal.returns-in_err-reply
@@ -117,43 +125,79 @@ released c =
 pub release-requires-clause-counted : goal.release-requires-clause-counted
 release-requires-clause-counted c =
     table_counts c.self.inside.tables c.from-p.result c.get_mut.result.now (sym c.get_mut.ensures.value) c.self.inside.channels c.self.inside.objects.counts
-    c.self.invariant.counted c.change_table.new.table c.change_table.new.objects.counts c.in_ok-reply.ensures.counts
+    c.self.invariant.kept.counted c.change_table.new.table c.change_table.new.objects.counts c.in_ok-reply.ensures.counts
 
 pub release-requires-clause-tables : goal.release-requires-clause-tables
 release-requires-clause-tables c = λ q.
     some_again c.self.inside.tables c.from-p.result c.get_mut.result.now c.change_table.new.table q (sym c.get_mut.ensures.value)
-    ∙ c.self.invariant.valid.nearly.tables q
+    ∙ c.self.invariant.kept.valid.nearly.tables q
 
 pub release-requires-clause-processes : goal.release-requires-clause-processes
-release-requires-clause-processes c = c.self.invariant.valid.nearly.owns
+release-requires-clause-processes c = c.self.invariant.kept.valid.nearly.owns
 
 -- each node is as much used after the change as before it, and so is used
 pub release-requires-clause-used : goal.release-requires-clause-used
 release-requires-clause-used c = λ n there.
     ap (λ (m : FinMap nat_cmp OpenKind). is_used m c.self.inside.tree n) (c.in_ok-reply.ensures.done c.args.pid).2
-    ∙ change_use c.args.pid c.self.inside.objects.kinds c.get_mut.result.now c.self.inside.tree n c.args.change ∙ c.self.invariant.valid.kept n there
+    ∙ change_use c.args.pid c.self.inside.objects.kinds c.get_mut.result.now c.self.inside.tree n c.args.change ∙ c.self.invariant.kept.valid.kept n there
 
 pub release-requires-clause-going : goal.release-requires-clause-going
-release-requires-clause-going c = c.self.invariant.valid.going
+release-requires-clause-going c = c.self.invariant.kept.valid.going
 
 pub release-requires-clause-tree : goal.release-requires-clause-tree
-release-requires-clause-tree c = c.self.invariant.valid.nearly.tree
+release-requires-clause-tree c = c.self.invariant.kept.valid.nearly.tree
 
 -- the process had this table before the change
 had : (c : After-release) → get c.args.self.now.tables c.args.pid ≡ Some c.get_mut.result.now
 had c = ap (λ (S : State). get S.tables c.args.pid) (sym c.self.view_is) ∙ there c
 
+-- what the release is given
+abbrev before_release : After-release → State
+before_release c = record (the_view c.self.inside) {
+  tables = insert c.self.inside.tables c.from-p.result c.change_table.new.table;
+  opens = c.change_table.new.objects.kinds;
+}
+
+-- those are left that wait on the number, or stand at the open's channels
+left : (c : After-release)
+    → AreLeftBy c.args.pid (get c.self.inside.processes c.args.pid) (number_changed (Some c.get_mut.result.now) c.args.change)
+    (open_changed c.self.inside.objects.kinds (Some c.get_mut.result.now) c.args.change) c.self.inside.waits c.touch_changed.new.waits
+left c =
+    let own = get c.self.inside.processes c.args.pid in
+    let was = c.changed_by-changed.ensures in
+    let V = c.self.inside.waits in
+    let W = c.touch_changed.new.waits in
+    subst (λ kind. AreLeftBy c.args.pid own (number_changed (Some c.get_mut.result.now) c.args.change) kind V W)
+    (was.open ∙ ap (λ (S : State). open_changed S.opens (get S.tables c.args.pid) c.args.change) (sym c.self.view_is)
+    ∙ ap (λ t. open_changed c.self.inside.objects.kinds t c.args.change) (there c))
+    (subst (λ number. AreLeftBy c.args.pid own number c.changed_by-changed.result.1 V W) (was.number
+    ∙ ap (λ (S : State). number_changed (get S.tables c.args.pid) c.args.change) (sym c.self.view_is) ∙ ap (λ t. number_changed t c.args.change) (there c))
+    c.touch_changed.ensures)
+
+held : (c : After-release) → AreHeld (looked_at (before_release c)) c.touch_changed.new.waits
+held c =
+    let S = the_view c.self.inside in
+    let done = c.in_ok-reply.ensures.done c.args.pid in
+    subst (λ (U : State). AreHeld (looked_at U) c.touch_changed.new.waits) (λ i. record S { tables = sym (set c) i; opens = sym done.2 i })
+    (change_is_held S c.args.pid c.get_mut.result.now c.args.change c.self.inside.waits c.touch_changed.new.waits (there c)
+    (c.self.invariant.kept.processes c.args.pid (ap is_some (there c))) (left c) c.self.invariant.waits)
+
 pub invariant_of-self-2 : goal.invariant_of-self-2
-invariant_of-self-2 d =
-    let c = (goal.at.invariant_of-self-2 d).After-release in
-    let k = c.self.inside in
-    let table = c.get_mut.result.now in
-    let fits : IsTable (table_after table (us c)) =
-    change_small c.args.pid k.objects.kinds table c.args.change (c.requires.replaced table (had c)) (c.self.invariant.small c.args.pid table (there c)) in
-    kept_released (changed c) (fields c) c.release.new.objects.counts (released c)
-    (subst IsNearlyValid (puts c) (change_valid (the_view k) c.args.pid table c.args.change (there c) c.self.invariant.valid.nearly))
-    c.release.ensures.counted (c.release.ensures.few c.self.invariant.few) (small_set k.tables c.args.pid (table_after table (us c)) c.self.invariant.small fits)
-    (below-insert_again (2 ^ 32) k.tables c.args.pid (table_after table (us c)) c.self.invariant.processes (ap is_some (there c)))
+invariant_of-self-2 d = record {
+  kept =
+      let c = (goal.at.invariant_of-self-2 d).After-release in
+      let k = c.self.inside in
+      let table = c.get_mut.result.now in
+      let fits : IsTable (table_after table (us c)) =
+      change_small c.args.pid k.objects.kinds table c.args.change (c.requires.replaced table (had c)) (c.self.invariant.kept.small c.args.pid table (there c)) in
+      kept_released (changed c) (fields c) c.release.new.objects.counts (released c)
+      (subst IsNearlyValid (puts c) (change_valid (the_view k) c.args.pid table c.args.change (there c) c.self.invariant.kept.valid.nearly))
+      c.release.ensures.counted (c.release.ensures.few c.self.invariant.kept.few) (small_set k.tables c.args.pid (table_after table (us c)) c.self.invariant.kept.small fits)
+      (below-insert_again (2 ^ 32) k.tables c.args.pid (table_after table (us c)) c.self.invariant.kept.processes (ap is_some (there c)));
+  waits =
+      let c = (goal.at.invariant_of-self-2 d).After-release in
+      held_released (before_release c) (fields c) d.touch_changed.new.waits d.release.new.waits (held c) d.release.ensures.touched refl;
+}
 
 pub returns : goal.returns
 returns d = λ table here.

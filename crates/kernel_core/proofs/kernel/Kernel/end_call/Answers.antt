@@ -1,5 +1,5 @@
-use Rattle.std.proofs.Common.{◌≡◌, ℕ, List, Some, Ok, sym, ap, subst, ◌∙◌}
-use Rattle.std.specs.FinMap.{get}
+use Rattle.std.proofs.Common.{◌≡◌, ℕ, List, Some, Ok, refl, sym, ap, subst, ◌∙◌}
+use Rattle.std.specs.FinMap.{empty, get}
 use Rattle.abi_types.specs.Families.{call_of_offset}
 use Rattle.channel_calls.specs.Calls.{channels_after, end_outcome}
 use Rattle.kernel_model.specs.Calls.{takes_memory}
@@ -9,6 +9,10 @@ use Rattle.kernel_model.specs.Valid.{IsNearlyValid}
 use Rattle.kernel_core.proofs.Done.{done_seen, lacked}
 use Rattle.kernel_parts.specs.Released.{state_by}
 use Rattle.kernel_core.specs.contracts.kernel.Kernel.{the_view}
+use Rattle.readiness_laws.specs.Watched.{looked_at}
+use Rattle.kernel_core.specs.Kernel.{AreHeld}
+use Rattle.kernel_core.specs.Readiness.{left_where_done}
+use Rattle.kernel_core.proofs.HeldChannels.{end_is_held, end_keeps, held_released}
 use Rattle.kernel_core.proofs.Released.{kept_released, released_to}
 use Rattle.kernel_core.proofs.Channels.{channels_put, end_going, end_nearly, end_sets}
 use Rattle.kernel_core.proofs.kernel.Kernel.end_call.Goals as goal
@@ -18,7 +22,7 @@ use Rattle.kernel_core.proofs.kernel.Kernel.end_call.Goals.{After-release}
 pub release-requires-clause-going : goal.release-requires-clause-going
 release-requires-clause-going c =
     let there = subst (λ (S : State). (o : ℕ) × (get S.opens o ≡ Some c.args.kind.now)) (sym c.self.view_is) c.requires.there in
-    end_going (the_view c.self.inside) there.0 c.args.kind.now (call_of_offset c.args.call) c.on_end.new.channels c.self.invariant.valid there.1
+    end_going (the_view c.self.inside) there.0 c.args.kind.now (call_of_offset c.args.call) c.on_end.new.channels c.self.invariant.kept.valid there.1
     c.in_ok-answer.ensures.done.1
 
 abbrev us : After-release → List Update
@@ -49,13 +53,31 @@ released c =
     released_to (left c) _ _
     (λ i. state_by k.tables k.processes k.statuses (c.on_end.ensures.kinds i) (c.in_ok-answer.ensures.done.1 i) k.tree) c.release.ensures.state
 
+-- what the release is given
+abbrev before_release : After-release → State
+before_release c = record (the_view c.self.inside) { opens = c.on_end.new.objects.kinds; chans = c.on_end.new.channels }
+
+held : (c : After-release) → AreHeld (looked_at (before_release c)) c.touch_answered.new.waits
+held c =
+    let S = the_view c.self.inside in
+    let done = c.in_ok-answer.ensures.done in
+    let o = end_outcome c.self.inside.channels c.args.kind.now (call_of_offset c.args.call) in
+    subst (λ (U : State). AreHeld (looked_at U) c.touch_answered.new.waits) (λ i. record S { opens = sym c.on_end.ensures.kinds i; chans = sym done.1 i })
+    (end_is_held S c.args.kind.now empty o c.self.inside.waits (end_keeps S.chans empty c.args.kind.now (call_of_offset c.args.call)) c.self.invariant.waits
+    c.touch_answered.new.waits (c.touch_answered.ensures ∙ ap (λ given. left_where_done given c.args.kind.now c.self.inside.waits) done.0))
+
 pub invariant_of-self-2 : goal.invariant_of-self-2
-invariant_of-self-2 d =
-    let c = (goal.at.invariant_of-self-2 d).After-release in
-    let there = subst (λ (S : State). (o : ℕ) × (get S.opens o ≡ Some d.args.kind.now)) (sym d.self.view_is) d.requires.there in
-    kept_released (left c) (fields c) d.release.new.objects.counts (released c)
-    (subst IsNearlyValid (put c) (end_nearly (the_view d.self.inside) there.0 d.args.kind.now (call_of_offset d.args.call) there.1 d.self.invariant.valid.nearly))
-    d.release.ensures.counted (d.release.ensures.few (d.on_end.ensures.few d.self.invariant.few)) d.self.invariant.small d.self.invariant.processes
+invariant_of-self-2 d = record {
+  kept =
+      let c = (goal.at.invariant_of-self-2 d).After-release in
+      let there = subst (λ (S : State). (o : ℕ) × (get S.opens o ≡ Some d.args.kind.now)) (sym d.self.view_is) d.requires.there in
+      kept_released (left c) (fields c) d.release.new.objects.counts (released c)
+      (subst IsNearlyValid (put c) (end_nearly (the_view d.self.inside) there.0 d.args.kind.now (call_of_offset d.args.call) there.1 d.self.invariant.kept.valid.nearly))
+      d.release.ensures.counted (d.release.ensures.few (d.on_end.ensures.few d.self.invariant.kept.few)) d.self.invariant.kept.small d.self.invariant.kept.processes;
+  waits =
+      let c = (goal.at.invariant_of-self-2 d).After-release in
+      held_released (before_release c) (fields c) d.touch_answered.new.waits d.release.new.waits (held c) d.release.ensures.touched refl;
+}
 
 pub returns : goal.returns
 returns d =

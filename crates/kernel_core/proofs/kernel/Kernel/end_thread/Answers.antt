@@ -1,12 +1,15 @@
-use Rattle.std.proofs.Common.{◌≡◌, false, Some, sym, ap, subst, ◌∙◌}
-use Rattle.std.specs.FinMap.{get, insert}
+use Rattle.std.proofs.Common.{◌≡◌, ◌<◌, ◌^◌, false, Some, sym, ap, subst, ◌∙◌}
+use Rattle.std.specs.FinMap.{get, insert, remove}
 use Rattle.kernel_model.specs.Families.ProcessCalls.{left_updates}
 use Rattle.kernel_model.specs.OwnChanges.{without_thread}
 use Rattle.kernel_model.specs.Release.{release}
 use Rattle.kernel_model.specs.State.{State, ProcessState, put_all}
-use Rattle.kernel_core.specs.Kernel.{IsKept}
+use Rattle.kernel_parts.specs.Keys.{key}
+use Rattle.readiness_laws.specs.Watched.{looked_at}
+use Rattle.kernel_core.specs.Kernel.{AreHeld, IsKept}
 use Rattle.kernel_core.specs.Threads.{is_last_in}
 use Rattle.kernel_core.specs.contracts.kernel.Kernel.{the_view}
+use Rattle.kernel_core.proofs.HeldEnds.{thread_end_is_held}
 use Rattle.kernel_core.proofs.Leaving.{with_process}
 use Rattle.kernel_core.proofs.OwnCalls.{left_alone, left_last, own_kept, own_released, without_only}
 use Rattle.kernel_core.proofs.kernel.Kernel.end_thread.Goals as goal
@@ -35,11 +38,21 @@ put : (c : After-end_thread) → record (the_view c.self.inside) { processes = i
 put c = λ i. record (the_view c.self.inside) { processes = insert c.self.inside.processes (same c i) (c.end_thread.ensures i) }
 
 pub invariant_of-self : goal.invariant_of-self
-invariant_of-self d =
-    let c = (goal.at.invariant_of-self d).After-end_thread in
-    let own : ProcessState = c.get_mut-own.result.now in
-    subst (λ (S : State). IsKept S c.self.inside.objects.counts) (sym (put c))
-    (own_kept (the_view c.self.inside) c.args.pid own (there c) _ (without_only c.args.pid c.args.tid own) c.self.inside.objects.counts c.self.invariant)
+invariant_of-self d = record {
+  kept =
+      let c = (goal.at.invariant_of-self d).After-end_thread in
+      let own : ProcessState = c.get_mut-own.result.now in
+      subst (λ (S : State). IsKept S c.self.inside.objects.counts) (sym (put c))
+      (own_kept (the_view c.self.inside) c.args.pid own (there c) _ (without_only c.args.pid c.args.tid own) c.self.inside.objects.counts c.self.invariant.kept);
+  waits =
+      let c = (goal.at.invariant_of-self d).After-end_thread in
+      let own : ProcessState = c.get_mut-own.result.now in
+      subst (λ (S : State). AreHeld (looked_at S) d.end_entry.new.waits) (sym (put c))
+      (subst (λ W. AreHeld (looked_at (with_process (the_view c.self.inside) c.args.pid (without_thread c.args.tid own))) W)
+      (sym (d.end_entry.ensures.gone ∙ ap (λ t. remove c.self.inside.waits (key c.args.pid t)) d.tid.view_is))
+      (thread_end_is_held (the_view c.self.inside) c.args.pid c.args.tid own c.self.inside.waits (subst (λ t. t < 2 ^ 32) d.tid.view_is d.end_entry.ensures.small) (there c)
+      c.self.invariant.waits));
+}
 
 pub returns-else-is_last_thread : goal.returns-else-is_last_thread
 returns-else-is_last_thread d =
@@ -51,6 +64,6 @@ returns-else-is_last_thread d =
     ∙ sym c.is_last_thread.ensures ∙ c.if-is_last_thread.false in
     let left : left_updates c.args.pid c.args.tid (get S.processes c.args.pid) ≡ left_updates c.args.pid c.args.tid (Some own) =
     ap (left_updates c.args.pid c.args.tid) (there c) in
-    put c ∙ own_released S c.args.pid own (there c) _ (without_only c.args.pid c.args.tid own) c.self.invariant.valid
+    put c ∙ own_released S c.args.pid own (there c) _ (without_only c.args.pid c.args.tid own) c.self.invariant.kept.valid
     ∙ ap (λ us. release (put_all us S)) (sym (left ∙ left_alone c.args.pid c.args.tid own apart))
     ∙ ap (λ (X : State). release (put_all (left_updates c.args.pid c.args.tid (get X.processes c.args.pid)) X)) c.self.view_is

@@ -11,16 +11,18 @@ use Rattle.kernel_model.specs.Families.NameMeaning.{NameOutcome, outcome_of}
 use Rattle.kernel_model.specs.Families.Numbers.{next_object}
 use Rattle.kernel_model.specs.Outcome.{Outcome}
 use Rattle.kernel_model.specs.Release.{release}
-use Rattle.kernel_model.specs.State.{State, Table, Tree, put_all, tree_of}
+use Rattle.kernel_model.specs.State.{ProcessState, State, Table, Tree, put_all, tree_of}
 use Rattle.kernel_model.specs.Valid.{IsValid}
 use Rattle.kernel_model.proofs.Valids.{release_restores}
-use Rattle.kernel_core.specs.Kernel.{IsKept}
+use Rattle.readiness_laws.specs.Watched.{looked_at}
+use Rattle.kernel_core.specs.Kernel.{AreHeld, IsKept}
 use Rattle.kernel_core.specs.Entries.{entry_outcome, entries_come}
 use Rattle.kernel_parts.specs.Entries.{IsLeftBy, kind_with, open_at, open_in}
 use Rattle.kernel_core.specs.contracts.kernel.Kernel.{the_view}
 use Rattle.kernel_core.proofs.Done.{done_as, done_at, lacked}
 use Rattle.kernel_core.proofs.EntryCalls.{entries_after, entries_answer, entries_take_memory, entries_tree, entries_valid, open_there}
 use Rattle.kernel_parts.proofs.Forgetting.{used_still}
+use Rattle.kernel_core.proofs.HeldSame.{named_threads, same_threads_held}
 use Rattle.kernel_core.proofs.Opens.{IsFound, open_absent, open_found}
 use Rattle.kernel_core.proofs.kernel.Kernel.entry_call.Goals as goal
 use Rattle.kernel_core.proofs.kernel.Kernel.entry_call.Goals.{In_err-done, In_ok-done}
@@ -40,7 +42,7 @@ pub returns-in_default : goal.returns-in_default
 returns-in_default d = λ table here.
     let S = the_view d.self.inside in
     let has = ap (λ (T : State). get T.tables d.args.pid) d.self.view_is ∙ here in
-    absurd (open_there S d.args.pid d.args.fd table has d.self.invariant.valid.nearly (d.requires.named table here)
+    absurd (open_there S d.args.pid d.args.fd table has d.self.invariant.kept.valid.nearly (d.requires.named table here)
     (open_absent S.opens (get S.tables d.args.pid) table d.args.fd has (sym d.open_of.ensures ∙ d.in_default.is)))
 
 -- ---- where memory runs out nothing has changed
@@ -64,9 +66,14 @@ as_before c =
     }
 
 pub invariant_of-self : goal.invariant_of-self
-invariant_of-self d =
-    let c = (goal.at.invariant_of-self d).In_err-done in
-    subst (λ (S : State). IsKept S d.self.inside.objects.counts) (sym (as_before c)) d.self.invariant
+invariant_of-self d = record {
+  kept =
+      let c = (goal.at.invariant_of-self d).In_err-done in
+      subst (λ (S : State). IsKept S d.self.inside.objects.counts) (sym (as_before c)) d.self.invariant.kept;
+  waits =
+      let c = (goal.at.invariant_of-self d).In_err-done in
+      subst (λ (S : State). AreHeld (looked_at S) d.self.inside.waits) (sym (as_before c)) d.self.invariant.waits;
+}
 
 -- and the call would succeed
 pub returns-in_err-done : goal.returns-in_err-done
@@ -120,12 +127,12 @@ forget_nameless-requires-clause-tree d =
     let c = (goal.at.forget_nameless-requires-clause-tree d).In_ok-done in
     let S = the_view d.self.inside in
     entries_tree d.args.constants.now S d.args.pid (table_of c) d.args.fd d.args.other (call_of_entry d.args.call) d.requires.on d.get_mut-own.result.now d.change_entries.new.own (owned c)
-    d.self.invariant.valid d.change_entries.new.tree d.in_ok-done.done.reply (done c) (there c)
+    d.self.invariant.kept.valid d.change_entries.new.tree d.in_ok-done.done.reply (done c) (there c)
 
 pub forget_nameless-requires-clause-others : goal.forget_nameless-requires-clause-others
 forget_nameless-requires-clause-others d =
     let S = the_view d.self.inside in
-    used_still S.opens S.opens (tree_of S) d.change_entries.new.tree d.in_ok-done.done.lost (λ n. omega arith) d.self.invariant.valid.kept d.in_ok-done.ensures.lost
+    used_still S.opens S.opens (tree_of S) d.change_entries.new.tree d.in_ok-done.done.lost (λ n. omega arith) d.self.invariant.kept.valid.kept d.in_ok-done.ensures.lost
 
 -- the fields as they are in the end
 abbrev fields : In_ok-done → Tree → State
@@ -137,21 +144,30 @@ after c t rest =
     let S = the_view c.self.inside in
     ap (λ (p : ℕ). record S { processes = insert S.processes p c.change_entries.new.own; nodes = t.nodes; names = t.names }) (c.from.ensures ∙ c.pid.view_is)
     ∙ entries_after c.args.constants.now S c.args.pid (table_of c) c.args.fd c.args.other (call_of_entry c.args.call) c.requires.on c.get_mut-own.result.now c.change_entries.new.own
-    (owned c) c.self.invariant.valid c.change_entries.new.tree c.in_ok-done.done.reply (done c) t rest
+    (owned c) c.self.invariant.kept.valid c.change_entries.new.tree c.in_ok-done.done.reply (done c) t rest
 
 pub invariant_of-self-2 : goal.invariant_of-self-2
-invariant_of-self-2 d =
-    let c = (goal.at.invariant_of-self-2 d).In_ok-done in
-    let S = the_view d.self.inside in
-    record {
-      valid = subst IsValid (sym (after c d.forget_nameless.new.tree d.forget_nameless.ensures)) (release_restores _
-          (entries_valid d.args.constants.now S d.args.pid (table_of (goal.at.invariant_of-self-2 d).In_ok-done) d.args.fd d.args.other (call_of_entry d.args.call) d.requires.on (there (goal.at.invariant_of-self-2 d).In_ok-done)
-          d.self.invariant.valid.nearly));
-      counted = d.self.invariant.counted;
-      few = d.self.invariant.few;
-      small = d.self.invariant.small;
-      processes = d.self.invariant.processes;
-    }
+invariant_of-self-2 d = record {
+  kept =
+      let c = (goal.at.invariant_of-self-2 d).In_ok-done in
+      let S = the_view d.self.inside in
+      record {
+        valid = subst IsValid (sym (after c d.forget_nameless.new.tree d.forget_nameless.ensures)) (release_restores _
+            (entries_valid d.args.constants.now S d.args.pid (table_of (goal.at.invariant_of-self-2 d).In_ok-done) d.args.fd d.args.other (call_of_entry d.args.call) d.requires.on (there (goal.at.invariant_of-self-2 d).In_ok-done)
+            d.self.invariant.kept.valid.nearly));
+        counted = d.self.invariant.kept.counted;
+        few = d.self.invariant.kept.few;
+        small = d.self.invariant.kept.small;
+        processes = d.self.invariant.kept.processes;
+      };
+  waits =
+      let c = (goal.at.invariant_of-self-2 d).In_ok-done in
+      let S = the_view d.self.inside in
+      let own : ProcessState = d.get_mut-own.result.now in
+      same_threads_held S d.self.inside.objects.counts d.from.result own d.change_entries.new.own d.self.inside.waits d.self.invariant.kept (sym d.get_mut-own.ensures.value)
+      (ap (λ (x : ProcessState). x.threads) (done c).numbered
+      ∙ named_threads d.args.pid (name_meaning (call_of_entry d.args.call)).new_nodes own (comes c)) d.self.invariant.waits;
+}
 
 pub returns : goal.returns
 returns d = λ table here.
@@ -163,6 +179,6 @@ returns d = λ table here.
     done_at S d.args.self.now d.self.view_is (takes_memory called) (λ X t. entry_outcome constants X d.args.pid t d.args.fd d.args.other called) d.args.pid (table_of c)
     table (fields c t) (Ok (answer.Reply d.in_ok-done.done.reply)) (there c) here (
       entries_answer constants S d.args.pid (table_of c) d.args.fd d.args.other called d.requires.on d.get_mut-own.result.now d.change_entries.new.own (owned c)
-          d.self.invariant.valid d.change_entries.new.tree d.in_ok-done.done.reply (done c),
+          d.self.invariant.kept.valid d.change_entries.new.tree d.in_ok-done.done.reply (done c),
       after c t d.forget_nameless.ensures,
     )

@@ -18,10 +18,15 @@ use Rattle.kernel_model.specs.Reply.{success}
 use Rattle.kernel_model.specs.State.{ProcessState, State, Table, counts_in, put_all}
 use Rattle.kernel_model.specs.Valid.{IsNearlyValid}
 use Rattle.kernel_model.proofs.Valids.{some_again}
-use Rattle.kernel_parts.specs.Released.{state_by}
 use Rattle.kernel_core.specs.Ends.{IsPair}
 use Rattle.kernel_core.specs.contracts.kernel.Kernel.{the_view}
-use Rattle.kernel_core.proofs.Released.{kept_released, released_to}
+use Rattle.kernel_parts.specs.Touching.{HasEach, spread_if}
+use Rattle.readiness_laws.specs.Watched.{looked_at}
+use Rattle.kernel_core.specs.Kernel.{AreHeld}
+use Rattle.kernel_core.specs.Readiness.{is_concerned_in}
+use Rattle.kernel_core.proofs.HeldChannels.{held_released}
+use Rattle.kernel_core.proofs.HeldNew.{pair_is_held}
+use Rattle.kernel_core.proofs.Released.{kept_released, parts, released_to}
 use Rattle.kernel_core.proofs.Channels.{AreCounted, moved_counts}
 use Rattle.kernel_core.proofs.Done.{done_at, lacked, replied}
 use Rattle.kernel_core.proofs.EndCalls.{create_is, create_nearly, numbers_can, pair_fits, pair_free, pair_going, pair_new, pair_put, pair_small, pair_table, pair_used, with_pair}
@@ -78,7 +83,7 @@ owner : (c : After-get_mut-table) → Owner (the_view c.self.inside) c.args.who.
 owner c =
     let S = the_view c.self.inside in
     let p = c.args.who.now.pid in
-    let v = c.self.invariant.valid.nearly in
+    let v = c.self.invariant.kept.valid.nearly in
     let some = some_there (get S.processes p) (v.owns p ∙ sym (v.tables p) ∙ ap is_some (there c)) in
     let plan = planned c in
     let can : model.can_create p c.args.who.now.tid (model.count_of (model_of c.in-Ok.pair.kind)) (get S.processes p) ≡ true =
@@ -93,7 +98,7 @@ owner c =
 new : (c : After-get_mut-table) → AreNew c.in-Ok.pair c.self.inside.channels c.self.inside.objects.kinds c.self.inside.objects.counts
 new c =
     let is = owner c in
-    pair_new (the_view c.self.inside) c.args.who.now.pid is.own is.there c.self.invariant.valid.nearly c.self.inside.objects.counts c.self.invariant.counted
+    pair_new (the_view c.self.inside) c.args.who.now.pid is.own is.there c.self.invariant.kept.valid.nearly c.self.inside.objects.counts c.self.invariant.kept.counted
     c.in-Ok.pair.kind c.in-Ok.pair.first c.in-Ok.pair.one c.in-Ok.pair.two is.can is.first
 
 free : (c : After-get_mut-table) → AreFree c.in-Ok.pair c.get_mut-table.result.now
@@ -115,7 +120,7 @@ put_pair-requires-clause-new d = new (goal.at.put_pair-requires-clause-new d).Af
 counted : (c : After-put_pair) → AreCounted c.put_pair.new.objects.counts (insert c.self.inside.tables c.from-p.result c.put_pair.new.table) c.put_pair.new.channels
 counted c =
     moved_counts c.self.inside.tables c.from-p.result c.get_mut-table.result.now (sym c.get_mut-table.ensures.value) c.self.inside.channels
-    c.self.inside.objects.counts c.self.invariant.counted c.put_pair.new.table c.put_pair.new.channels c.put_pair.new.objects.counts c.put_pair.ensures.counts
+    c.self.inside.objects.counts c.self.invariant.kept.counted c.put_pair.new.table c.put_pair.new.channels c.put_pair.new.objects.counts c.put_pair.ensures.counts
 
 -- ---- where memory runs out nothing has changed
 
@@ -134,11 +139,14 @@ as_before c =
     λ i. record (the_view c.self.inside) { tables = tables i; opens = e.same_kinds i; chans = e.same_channels i }
 
 pub invariant_of-self : goal.invariant_of-self
-invariant_of-self d =
-    let same = as_before (goal.at.invariant_of-self d).In_err-put_pair in
-    kept_again (the_view d.self.inside) d.self.inside.objects.counts d.self.invariant (unchanged (goal.at.invariant_of-self d).In_err-put_pair)
-    d.put_pair.new.objects.counts same
-    (λ o. counted (goal.at.invariant_of-self d).After-put_pair o ∙ ap (λ (S : State). holders S o + carriers S o) same ∙ sym (d.self.invariant.counted o))
+invariant_of-self d = record {
+  kept =
+      let same = as_before (goal.at.invariant_of-self d).In_err-put_pair in
+      kept_again (the_view d.self.inside) d.self.inside.objects.counts d.self.invariant.kept (unchanged (goal.at.invariant_of-self d).In_err-put_pair)
+      d.put_pair.new.objects.counts same
+      (λ o. counted (goal.at.invariant_of-self d).After-put_pair o ∙ ap (λ (S : State). holders S o + carriers S o) same ∙ sym (d.self.invariant.kept.counted o));
+  waits = subst (λ (S : State). AreHeld (looked_at S) d.self.inside.waits) (sym (as_before (goal.at.invariant_of-self d).In_err-put_pair)) d.self.invariant.waits;
+}
 
 -- what was planned succeeds
 outcome_is : (c : After-get_mut-table) → model.create (model.made_of c.args.kind) c.args.who.now.pid c.args.who.now.tid (get c.self.inside.processes c.args.who.now.pid) c.get_mut-table.result.now
@@ -183,11 +191,11 @@ release-requires-clause-counted d = counted (goal.at.release-requires-clause-cou
 pub release-requires-clause-tables : goal.release-requires-clause-tables
 release-requires-clause-tables c = λ q.
     some_again c.self.inside.tables c.from-p.result c.get_mut-table.result.now c.put_pair.new.table q (sym c.get_mut-table.ensures.value)
-    ∙ c.self.invariant.valid.nearly.tables q
+    ∙ c.self.invariant.kept.valid.nearly.tables q
 
 pub release-requires-clause-processes : goal.release-requires-clause-processes
 release-requires-clause-processes c = λ q.
-    some_again c.self.inside.processes c.from-p.result c.get_mut.result.now c.make.new.self q (sym c.get_mut.ensures.value) ∙ c.self.invariant.valid.nearly.owns q
+    some_again c.self.inside.processes c.from-p.result c.get_mut.result.now c.make.new.self q (sym c.get_mut.ensures.value) ∙ c.self.invariant.kept.valid.nearly.owns q
 
 pub release-requires-clause-used : goal.release-requires-clause-used
 release-requires-clause-used d = λ n some.
@@ -195,15 +203,15 @@ release-requires-clause-used d = λ n some.
     ap (λ (m : FinMap nat_cmp OpenKind). is_used m d.self.inside.tree n) d.in_ok-put_pair.ensures.kinds
     ∙ pair_used d.in-Ok.pair.kind d.in-Ok.pair.first d.in-Ok.pair.one d.in-Ok.pair.two d.self.inside.channels d.self.inside.objects.kinds
     d.self.inside.objects.counts d.self.inside.tree n (new c)
-    ∙ d.self.invariant.valid.kept n some
+    ∙ d.self.invariant.kept.valid.kept n some
 
 pub release-requires-clause-going : goal.release-requires-clause-going
 release-requires-clause-going d =
     subst AllGoOn (sym d.in_ok-put_pair.ensures.channels)
-    (pair_going d.in-Ok.pair.kind d.in-Ok.pair.first d.in-Ok.pair.one d.in-Ok.pair.two d.self.inside.channels d.self.invariant.valid.going)
+    (pair_going d.in-Ok.pair.kind d.in-Ok.pair.first d.in-Ok.pair.one d.in-Ok.pair.two d.self.inside.channels d.self.invariant.kept.valid.going)
 
 pub release-requires-clause-tree : goal.release-requires-clause-tree
-release-requires-clause-tree c = c.self.invariant.valid.nearly.tree
+release-requires-clause-tree c = c.self.invariant.kept.valid.nearly.tree
 
 -- the fields as they are in the end
 abbrev fields : After-release → State
@@ -225,8 +233,17 @@ owned c at = ap (get c.self.inside.processes) (sym at) ∙ sym c.get_mut.ensures
 abbrev left : After-release → State
 left c = with_pair (the_view c.self.inside) c.args.who.now.pid c.get_mut.result.now c.get_mut-table.result.now c.in-Ok.pair
 
-released : (c : After-release) (g : After-get_mut-table) → c.from-p.result ≡ c.args.who.now.pid → c.in-Ok.pair.kind ≡ c.in-Some.kind → fields c ≡ release (left c)
-released c g at kind =
+-- what the release is given
+abbrev before_release : After-release → State
+before_release c = record (the_view c.self.inside) {
+  tables = insert c.self.inside.tables c.from-p.result c.put_pair.new.table;
+  processes = insert c.self.inside.processes c.from-p.result c.make.new.self;
+  opens = c.put_pair.new.objects.kinds;
+  chans = c.put_pair.new.channels;
+}
+
+before_is : (c : After-release) → c.from-p.result ≡ c.args.who.now.pid → c.in-Ok.pair.kind ≡ c.in-Some.kind → before_release c ≡ left c
+before_is c at kind =
     let k = c.self.inside in
     let p = c.args.who.now.pid in
     let tables : insert k.tables c.from-p.result c.put_pair.new.table ≡ insert k.tables p (table_with c.in-Ok.pair c.get_mut-table.result.now) =
@@ -235,8 +252,29 @@ released c g at kind =
     let own : insert k.processes c.from-p.result c.make.new.self ≡ insert k.processes p (made_more (model.count_of (model_of c.in-Ok.pair.kind)) c.get_mut.result.now) =
     ap (insert k.processes c.from-p.result) (c.make.ensures ∙ ap (λ n. made_more n c.get_mut.result.now) count)
     ∙ ap (λ (q : ℕ). insert k.processes q (made_more (model.count_of (model_of c.in-Ok.pair.kind)) c.get_mut.result.now)) at in
-    released_to (left c) _ _
-    (λ i. state_by (tables i) (own i) k.statuses (c.in_ok-put_pair.ensures.kinds i) (c.in_ok-put_pair.ensures.channels i) k.tree) c.release.ensures.state
+    λ i. record (the_view k) { tables = tables i; processes = own i; opens = c.in_ok-put_pair.ensures.kinds i; chans = c.in_ok-put_pair.ensures.channels i }
+
+released : (c : After-release) → c.from-p.result ≡ c.args.who.now.pid → c.in-Ok.pair.kind ≡ c.in-Some.kind → fields c ≡ release (left c)
+released c at kind = released_to (left c) _ _ (ap parts (before_is c at kind)) c.release.ensures.state
+
+-- those are left that wait on one of the two numbers; nobody stands at what is new
+held : (c : After-release) → AreNew c.in-Ok.pair c.self.inside.channels c.self.inside.objects.kinds c.self.inside.objects.counts
+    → c.from-p.result ≡ c.args.who.now.pid → c.in-Ok.pair.kind ≡ c.in-Some.kind → get c.self.inside.tables c.args.who.now.pid ≡ Some c.get_mut-table.result.now
+    → AreHeld (looked_at (before_release c)) c.touch_number_of-2.new.waits
+held c new at kind had =
+    let S = the_view c.self.inside in
+    let p = c.args.who.now.pid in
+    let pair = c.in-Ok.pair in
+    let V = c.self.inside.waits in
+    let X = c.touch_number_of.new.waits in
+    let W = c.touch_number_of-2.new.waits in
+    let is = before_is c at kind in
+    subst (λ (U : State). AreHeld (looked_at U) W) (sym is)
+    (pair_is_held S p c.get_mut.result.now c.get_mut-table.result.now pair c.self.inside.objects.counts V X W c.self.invariant.kept.valid.nearly
+    (c.self.invariant.kept.processes p (ap is_some had)) (owned c at) had new
+    (subst (λ (U : State). HasEach (λ k. spread_if (is_concerned_in p pair.one (get U.processes p) k)) V X) is c.touch_number_of.ensures)
+    (subst (λ (U : State). HasEach (λ k. spread_if (is_concerned_in p pair.two (get U.processes p) k)) X W) is c.touch_number_of-2.ensures)
+    c.self.invariant.waits)
 
 put : (c : After-release) (g : After-get_mut-table) → c.from-p.result ≡ c.args.who.now.pid → c.in-Ok.pair.first ≡ next_object c.args.who.now.pid (get c.self.inside.processes c.args.who.now.pid) 1
     → left c ≡ put_all (model.create_updates (model_of c.in-Ok.pair.kind) c.args.who.now.pid (get c.self.inside.processes c.args.who.now.pid) c.get_mut-table.result.now c.in-Ok.pair.one c.in-Ok.pair.two) (the_view c.self.inside)
@@ -246,20 +284,27 @@ put c g at first =
     own (first ∙ ap (λ o. next_object c.args.who.now.pid o 1) own)
 
 pub invariant_of-self-2 : goal.invariant_of-self-2
-invariant_of-self-2 d =
-    let c = (goal.at.invariant_of-self-2 d).After-release in
-    let g = (goal.at.invariant_of-self-2 d).After-get_mut-table in
-    let k = d.self.inside in
-    let p = d.args.who.now.pid in
-    let table = d.get_mut-table.result.now in
-    let plan = planned g in
-    kept_released (left c) (fields c) d.release.new.objects.counts (released c g (same g) plan.kind_is)
-    (subst IsNearlyValid (ap (λ (o : Outcome). put_all o.updates (the_view k)) (outcome_is g) ∙ sym (put c g (same g) plan.first))
-    (create_nearly (the_view k) d.args.who.now table d.args.kind (there g) d.self.invariant.valid.nearly))
-    d.release.ensures.counted (d.release.ensures.few (d.put_pair.ensures.few d.self.invariant.few))
-    (small_set k.tables p (table_with d.in-Ok.pair table) d.self.invariant.small
-    (pair_table table d.in-Ok.pair.kind d.in-Ok.pair.first d.in-Ok.pair.one d.in-Ok.pair.two (free g) (d.self.invariant.small p table (there g))))
-    (below-insert_again (2 ^ 32) k.tables p (table_with d.in-Ok.pair table) d.self.invariant.processes (ap is_some (there g)))
+invariant_of-self-2 d = record {
+  kept =
+      let c = (goal.at.invariant_of-self-2 d).After-release in
+      let g = (goal.at.invariant_of-self-2 d).After-get_mut-table in
+      let k = d.self.inside in
+      let p = d.args.who.now.pid in
+      let table = d.get_mut-table.result.now in
+      let plan = planned g in
+      kept_released (left c) (fields c) d.release.new.objects.counts (released c (same g) plan.kind_is)
+      (subst IsNearlyValid (ap (λ (o : Outcome). put_all o.updates (the_view k)) (outcome_is g) ∙ sym (put c g (same g) plan.first))
+      (create_nearly (the_view k) d.args.who.now table d.args.kind (there g) d.self.invariant.kept.valid.nearly))
+      d.release.ensures.counted (d.release.ensures.few (d.put_pair.ensures.few d.self.invariant.kept.few))
+      (small_set k.tables p (table_with d.in-Ok.pair table) d.self.invariant.kept.small
+      (pair_table table d.in-Ok.pair.kind d.in-Ok.pair.first d.in-Ok.pair.one d.in-Ok.pair.two (free g) (d.self.invariant.kept.small p table (there g))))
+      (below-insert_again (2 ^ 32) k.tables p (table_with d.in-Ok.pair table) d.self.invariant.kept.processes (ap is_some (there g)));
+  waits =
+      let c = (goal.at.invariant_of-self-2 d).After-release in
+      let g = (goal.at.invariant_of-self-2 d).After-get_mut-table in
+      held_released (before_release c) (fields c) d.touch_number_of-2.new.waits d.release.new.waits (held c (new g) (same g) (planned g).kind_is (there g))
+      d.release.ensures.touched refl;
+}
 
 pub returns : goal.returns
 returns d = λ table here.
@@ -270,6 +315,6 @@ returns d = λ table here.
     done_at (the_view d.self.inside) d.args.self.now d.self.view_is true (Comes d.args.kind d.args.who.now) d.args.who.now.pid d.get_mut-table.result.now table (fields c)
     (Ok (answer.Reply d.success-reply.result)) (there g) here (
       ap answer.Reply (d.success-reply.ensures ∙ (λ i. success (one i) (two i))) ∙ ap (λ (o : Outcome). o.answer) (sym (outcome_is g)),
-      released c g (same g) (planned g).kind_is
+      released c (same g) (planned g).kind_is
           ∙ ap release (put c g (same g) (planned g).first ∙ sym (ap (λ (o : Outcome). put_all o.updates (the_view d.self.inside)) (outcome_is g))),
     )

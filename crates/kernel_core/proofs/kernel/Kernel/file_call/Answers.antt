@@ -23,27 +23,30 @@ returns-in_default d = λ table here.
     let S = the_view d.self.inside in
     let called = call_of_file d.args.call in
     let had = ap (λ (X : State). get X.tables d.args.pid) d.self.view_is ∙ here in
-    replied_seen S d.args.self.now d.self.view_is (λ X. file_outcome d.args.constants.now X table d.args.fd called) d.refused.result d.self.invariant.valid
+    replied_seen S d.args.self.now d.self.view_is (λ X. file_outcome d.args.constants.now X table d.args.fd called) d.refused.result d.self.invariant.kept.valid
     (absent_comes d.args.constants.now S table d.args.fd called d.requires.on
     (open_absent S.opens (get S.tables d.args.pid) table d.args.fd had (sym d.open_of.ensures ∙ d.in_default.is)) ∙ ap replies (sym d.refused.ensures))
 
 pub on_open-requires : goal.on_open-requires
 on_open-requires d =
     let c = (goal.at.on_open-requires d).In-Some in
-    there_behind (the_view d.self.inside) d.in-Some.kind (d.self.invariant.valid.nearly.behind d.in-Some.field-0-0.id d.in-Some.kind (found c).opened)
+    there_behind (the_view d.self.inside) d.in-Some.kind (d.self.invariant.kept.valid.nearly.behind d.in-Some.field-0-0.id d.in-Some.kind (found c).opened)
 
 pub invariant_of-self-2 : goal.invariant_of-self-2
-invariant_of-self-2 d =
-    let c = (goal.at.invariant_of-self-2 d).In-Some in
-    record {
-      valid = done_valid (call_of_file d.args.call) d.args.fd (d.self.inside.clock + d.args.constants.now.epoch) d.requires.on (the_view d.self.inside)
-          d.in-Some.field-0-0.id d.in-Some.kind (found c).opened d.self.invariant.valid d.on_open.new.tree
-          d.in_ok-reply.ensures.done.1 d.in_ok-reply.ensures.nodes;
-      counted = d.self.invariant.counted;
-      few = d.self.invariant.few;
-      small = d.self.invariant.small;
-      processes = d.self.invariant.processes;
-    }
+invariant_of-self-2 d = record {
+  kept =
+      let c = (goal.at.invariant_of-self-2 d).In-Some in
+      record {
+        valid = done_valid (call_of_file d.args.call) d.args.fd (d.self.inside.clock + d.args.constants.now.epoch) d.requires.on (the_view d.self.inside)
+            d.in-Some.field-0-0.id d.in-Some.kind (found c).opened d.self.invariant.kept.valid d.on_open.new.tree
+            d.in_ok-reply.ensures.done.1 d.in_ok-reply.ensures.nodes;
+        counted = d.self.invariant.kept.counted;
+        few = d.self.invariant.kept.few;
+        small = d.self.invariant.kept.small;
+        processes = d.self.invariant.kept.processes;
+      };
+  waits = d.self.invariant.waits;
+}
 
 pub returns : goal.returns
 returns d = λ table here.
@@ -58,7 +61,7 @@ returns d = λ table here.
     (file_comes constants S f.table d.args.fd called d.in-Some.kind (found_kind S d.args.pid d.args.fd d.in-Some.field-0-0 d.in-Some.kind f f.table f.there)) (
       d.in_ok-reply.ensures.done.0,
       done_released called d.args.fd (S.clock + constants.epoch) d.requires.on S d.in-Some.field-0-0.id d.in-Some.kind f.opened
-          d.self.invariant.valid d.on_open.new.tree d.in_ok-reply.ensures.done.1 d.in_ok-reply.ensures.nodes,
+          d.self.invariant.kept.valid d.on_open.new.tree d.in_ok-reply.ensures.done.1 d.in_ok-reply.ensures.nodes,
     ))
 
 pub returns-in_err-reply : goal.returns-in_err-reply

@@ -1,5 +1,6 @@
 use Rattle.std.proofs.Common.{◌≡◌, ℕ, ◌+◌, ◌^◌, true, Some, Ok, is_some, refl, sym, ap, subst, ◌∙◌, arith}
-use Rattle.std.specs.FinMap.{get, insert}
+use Rattle.std.specs.Ordering.{nat_cmp}
+use Rattle.std.specs.FinMap.{FinMap, get, insert}
 use Rattle.abi_base.specs.declared.limits.TheConstants.{MOST_DESCRIPTORS}
 use Rattle.abi_types.specs.declared.reply.Answer.TheVariants as answer
 use Rattle.fd_table.specs.Sizes.{below-insert, below-insert_again}
@@ -11,12 +12,17 @@ use Rattle.kernel_model.specs.Families.Numbers.{made_more, next_object}
 use Rattle.kernel_model.specs.Outcome.{Outcome, IsSuccess}
 use Rattle.kernel_model.specs.Release.{release}
 use Rattle.kernel_model.specs.Reply.{success}
-use Rattle.kernel_model.specs.State.{State, Table, Tree, counts_in, put_all, tree_of}
+use Rattle.kernel_model.specs.State.{ProcessState, State, Table, Tree, counts_in, put_all, tree_of}
 use Rattle.kernel_model.specs.Valid.{IsValid}
 use Rattle.kernel_model.proofs.Valids.{release_restores}
 use Rattle.entry_calls.specs.Plans.{change_of, new_nodes_of}
 use Rattle.kernel_core.specs.Opening.{IsOpening, open_outcome}
 use Rattle.kernel_core.specs.contracts.kernel.Kernel.{the_view}
+use Rattle.kernel_parts.specs.Touching.{HasEach, spread_if}
+use Rattle.readiness_laws.specs.Watched.{looked_at}
+use Rattle.kernel_core.specs.Kernel.{AreHeld}
+use Rattle.kernel_core.specs.Readiness.{is_concerned_in}
+use Rattle.kernel_core.proofs.HeldNew.{opening_is_held}
 use Rattle.kernel_core.proofs.Channels.{table_counts}
 use Rattle.kernel_core.proofs.Done.{done_at, lacked, replied}
 use Rattle.kernel_core.proofs.Kept.{kept_again, small_set}
@@ -31,7 +37,7 @@ returns-in-Err c = λ table here.
     let S = c.args.self.now in
     let call = c.args.call.now in
     let now : ℕ = S.clock + c.args.constants.now.epoch in
-    replied (open_outcome now S c.args.pid table call.lookup call.path.now call.oflags call.stat) S c.in-Err.reply (subst IsValid c.self.view_is c.self.invariant.valid)
+    replied (open_outcome now S c.args.pid table call.lookup call.path.now call.oflags call.stat) S c.in-Err.reply (subst IsValid c.self.view_is c.self.invariant.kept.valid)
     (c.in-Err.ensures.refused table here now)
 
 -- ---- what is opened was planned for this state
@@ -52,18 +58,18 @@ put_opening-requires-clause-free d = (planned (goal.at.put_opening-requires-clau
 pub put_opening-requires-clause-new : goal.put_opening-requires-clause-new
 put_opening-requires-clause-new d =
     open_is_new (the_view d.self.inside) d.args.pid d.get_mut-table.result.now d.args.call.now.lookup d.args.call.now.path.now d.args.call.now.oflags d.args.call.now.stat d.in-Ok.opening
-    (planned (goal.at.put_opening-requires-clause-new d).After-get_mut-table) d.self.invariant.valid
+    (planned (goal.at.put_opening-requires-clause-new d).After-get_mut-table) d.self.invariant.kept.valid
 
 pub put_opening-requires-clause-unheld : goal.put_opening-requires-clause-unheld
 put_opening-requires-clause-unheld d =
-    d.self.invariant.counted d.in-Ok.opening.descriptor.id
+    d.self.invariant.kept.counted d.in-Ok.opening.descriptor.id
     ∙ none_holds_it (the_view d.self.inside) d.args.pid d.get_mut-table.result.now d.args.call.now.lookup d.args.call.now.path.now d.args.call.now.oflags d.args.call.now.stat d.in-Ok.opening
-    (planned (goal.at.put_opening-requires-clause-unheld d).After-get_mut-table) d.self.invariant.valid
+    (planned (goal.at.put_opening-requires-clause-unheld d).After-get_mut-table) d.self.invariant.kept.valid
 
 pub put_opening-requires-clause-made : goal.put_opening-requires-clause-made
 put_opening-requires-clause-made d =
     node_is_new (the_view d.self.inside) d.args.pid d.get_mut-table.result.now d.args.call.now.lookup d.args.call.now.path.now d.args.call.now.oflags d.args.call.now.stat d.in-Ok.opening
-    (planned (goal.at.put_opening-requires-clause-made d).After-get_mut-table) d.self.invariant.valid
+    (planned (goal.at.put_opening-requires-clause-made d).After-get_mut-table) d.self.invariant.kept.valid
 
 -- ---- where memory runs out nothing has changed
 
@@ -88,10 +94,13 @@ as_before c =
     }
 
 pub invariant_of-self : goal.invariant_of-self
-invariant_of-self d =
-    let c = (goal.at.invariant_of-self d).In_err-put_opening in
-    kept_again (the_view d.self.inside) d.self.inside.objects.counts d.self.invariant (unchanged c) d.put_opening.new.objects.counts (as_before c)
-    d.in_err-put_opening.ensures.same_counts
+invariant_of-self d = record {
+  kept =
+      let c = (goal.at.invariant_of-self d).In_err-put_opening in
+      kept_again (the_view d.self.inside) d.self.inside.objects.counts d.self.invariant.kept (unchanged c) d.put_opening.new.objects.counts (as_before c)
+      d.in_err-put_opening.ensures.same_counts;
+  waits = subst (λ (S : State). AreHeld (looked_at S) d.self.inside.waits) (sym (as_before (goal.at.invariant_of-self d).In_err-put_opening)) d.self.invariant.waits;
+}
 
 -- what was planned succeeds
 pub returns-in_err-put_opening : goal.returns-in_err-put_opening
@@ -102,7 +111,7 @@ returns-in_err-put_opening d = λ table here.
     let now : ℕ = S.clock + d.args.constants.now.epoch in
     lacked true (open_outcome now S d.args.pid table call.lookup call.path.now call.oflags call.stat) S (unchanged c) d.from_residual.result d.from_residual.ensures.0 refl
     (subst IsSuccess (sym (open_answer S d.args.pid table call.lookup call.path.now call.oflags call.stat d.in-Ok.opening (d.in-Ok.ensures.ok table here)
-    (subst IsValid d.self.view_is d.self.invariant.valid) now)) refl)
+    (subst IsValid d.self.view_is d.self.invariant.kept.valid) now)) refl)
     (as_before c ∙ d.self.view_is)
 
 -- ---- something is opened
@@ -112,7 +121,7 @@ pub make-requires : goal.make-requires
 make-requires d =
     let S = the_view d.self.inside in
     let fits = open_fits S d.args.pid d.get_mut-table.result.now d.args.call.now.lookup d.args.call.now.path.now d.args.call.now.oflags d.args.call.now.stat d.in-Ok.opening
-    (planned (goal.at.make-requires d).After-get_mut-table) d.self.invariant.valid in
+    (planned (goal.at.make-requires d).After-get_mut-table) d.self.invariant.kept.valid in
     let own : get S.processes d.args.pid ≡ Some d.get_mut.result.now =
     ap (get S.processes) (sym (d.from-p.ensures ∙ d.pid.view_is)) ∙ sym d.get_mut.ensures.value in
     let made = ap (λ o. (counts_in o).objects) own in
@@ -144,6 +153,29 @@ fields c = record (the_view c.self.inside) {
   names = c.put_opening.new.tree.names;
 }
 
+-- those are left that wait on the number; nobody stands at an open that is new
+held : (c : After-success) → Plans c → AreHeld (looked_at (fields c)) c.touch_number_of.new.waits
+held c plan =
+    let S = the_view c.self.inside in
+    let p : ℕ = c.args.pid in
+    let o = c.in-Ok.opening in
+    let same : c.from-p.result ≡ p = c.from-p.ensures ∙ c.pid.view_is in
+    let table = c.get_mut-table.result.now in
+    let own = c.get_mut.result.now in
+    let V = c.self.inside.waits in
+    let W = c.touch_number_of.new.waits in
+    let new = open_is_new S p table c.args.call.now.lookup c.args.call.now.path.now c.args.call.now.oflags c.args.call.now.stat o plan c.self.invariant.kept.valid in
+    let tables : insert S.tables c.from-p.result c.put_opening.new.table ≡ insert S.tables p (insert table o.fd o.descriptor) =
+    ap (insert S.tables c.from-p.result) c.in_ok-put_opening.ensures.table ∙ ap (λ (q : ℕ). insert S.tables q (insert table o.fd o.descriptor)) same in
+    let processes : insert S.processes c.from-p.result c.make.new.self ≡ insert S.processes p c.make.new.self = ap (λ (q : ℕ). insert S.processes q c.make.new.self) same in
+    subst (λ (U : State). AreHeld (looked_at U) W)
+    (λ i. record (fields c) { tables = sym tables i; processes = sym processes i; opens = sym c.in_ok-put_opening.ensures.kinds i })
+    (opening_is_held S p o.fd o.descriptor.id own c.make.new.self table o.descriptor o.kind V W c.self.invariant.kept.valid.nearly
+    (c.self.invariant.kept.processes p (ap is_some (there c))) (owned c) (ap (λ (x : ProcessState). x.threads) c.make.ensures) (there c) new
+    (subst (λ (m : FinMap nat_cmp ProcessState). HasEach (λ k. spread_if (is_concerned_in p o.fd (get m p) k)) V W) processes
+    c.touch_number_of.ensures)
+    c.self.invariant.waits)
+
 after : (c : After-success) → Plans c → fields c ≡ release (put_all (outcome c).updates (the_view c.self.inside))
 after c plan =
     let S = the_view c.self.inside in
@@ -162,31 +194,36 @@ after c plan =
     let changed : c.put_opening.new.tree ≡ u =
     c.in_ok-put_opening.ensures.tree ∙ ap (λ n. (change_of o.plan c.args.call.now.path.now now n (tree_of S)).tree) plan.new in
     let tree : c.put_opening.new.tree ≡ retained u (is_used (insert S.opens o.descriptor.id o.kind) u) =
-    changed ∙ open_keeps S p c.get_mut-table.result.now c.args.call.now.lookup c.args.call.now.path.now c.args.call.now.oflags c.args.call.now.stat o plan c.self.invariant.valid now in
+    changed ∙ open_keeps S p c.get_mut-table.result.now c.args.call.now.lookup c.args.call.now.path.now c.args.call.now.oflags c.args.call.now.stat o plan c.self.invariant.kept.valid now in
     (λ i. record S { tables = tables i; processes = own i; opens = opens i; nodes = (tree i).nodes; names = (tree i).names })
-    ∙ open_released S p c.get_mut-table.result.now c.args.call.now.lookup c.args.call.now.path.now c.args.call.now.oflags c.args.call.now.stat o plan c.self.invariant.valid (there c) now
+    ∙ open_released S p c.get_mut-table.result.now c.args.call.now.lookup c.args.call.now.path.now c.args.call.now.oflags c.args.call.now.stat o plan c.self.invariant.kept.valid (there c) now
     c.get_mut.result.now (owned c)
 
 pub invariant_of-self-2 : goal.invariant_of-self-2
-invariant_of-self-2 d =
-    let c = (goal.at.invariant_of-self-2 d).After-success in
-    let plan = planned (goal.at.invariant_of-self-2 d).After-get_mut-table in
-    let table : Table = d.get_mut-table.result.now in
-    let o = d.in-Ok.opening in
-    let had : IsTable table = d.self.invariant.small d.args.pid table (there c) in
-    let fits : IsTable d.put_opening.new.table =
-    subst IsTable (sym d.in_ok-put_opening.ensures.table) (below-insert MOST_DESCRIPTORS table o.fd o.descriptor had plan.free.0) in
-    record {
-      valid = subst IsValid (sym (after c plan)) (release_restores _
-          (open_valid d.args.constants.now (the_view d.self.inside) d.args.pid table d.args.call.now.lookup d.args.call.now.path.now d.args.call.now.oflags d.args.call.now.stat (there c)
-          d.self.invariant.valid.nearly));
-      counted = table_counts d.self.inside.tables d.from-p.result table (sym d.get_mut-table.ensures.value) d.self.inside.channels d.self.inside.objects.counts
-          d.self.invariant.counted d.put_opening.new.table d.put_opening.new.objects.counts d.in_ok-put_opening.ensures.counts;
-      few = d.self.invariant.few;
-      small = small_set d.self.inside.tables d.from-p.result d.put_opening.new.table d.self.invariant.small fits;
-      processes = below-insert_again (2 ^ 32) d.self.inside.tables d.from-p.result d.put_opening.new.table d.self.invariant.processes
-          (ap is_some (sym d.get_mut-table.ensures.value));
-    }
+invariant_of-self-2 d = record {
+  kept =
+      let c = (goal.at.invariant_of-self-2 d).After-success in
+      let plan = planned (goal.at.invariant_of-self-2 d).After-get_mut-table in
+      let table : Table = d.get_mut-table.result.now in
+      let o = d.in-Ok.opening in
+      let had : IsTable table = d.self.invariant.kept.small d.args.pid table (there c) in
+      let fits : IsTable d.put_opening.new.table =
+      subst IsTable (sym d.in_ok-put_opening.ensures.table) (below-insert MOST_DESCRIPTORS table o.fd o.descriptor had plan.free.0) in
+      record {
+        valid = subst IsValid (sym (after c plan)) (release_restores _
+            (open_valid d.args.constants.now (the_view d.self.inside) d.args.pid table d.args.call.now.lookup d.args.call.now.path.now d.args.call.now.oflags d.args.call.now.stat (there c)
+            d.self.invariant.kept.valid.nearly));
+        counted = table_counts d.self.inside.tables d.from-p.result table (sym d.get_mut-table.ensures.value) d.self.inside.channels d.self.inside.objects.counts
+            d.self.invariant.kept.counted d.put_opening.new.table d.put_opening.new.objects.counts d.in_ok-put_opening.ensures.counts;
+        few = d.self.invariant.kept.few;
+        small = small_set d.self.inside.tables d.from-p.result d.put_opening.new.table d.self.invariant.kept.small fits;
+        processes = below-insert_again (2 ^ 32) d.self.inside.tables d.from-p.result d.put_opening.new.table d.self.invariant.kept.processes
+            (ap is_some (sym d.get_mut-table.ensures.value));
+      };
+  waits =
+      let c = (goal.at.invariant_of-self-2 d).After-success in
+      held c (planned (goal.at.invariant_of-self-2 d).After-get_mut-table);
+}
 
 pub returns : goal.returns
 returns d = λ table here.
@@ -201,6 +238,6 @@ returns d = λ table here.
     done_at S d.args.self.now d.self.view_is true (λ X t. open_outcome (X.clock + epoch) X p t call.lookup call.path.now call.oflags call.stat) p found table
     (fields c) (Ok (answer.Reply d.success.result)) (there c) here (
       ap answer.Reply (d.success.ensures ∙ number)
-          ∙ sym (open_answer S p found call.lookup call.path.now call.oflags call.stat d.in-Ok.opening plan d.self.invariant.valid (S.clock + epoch)),
+          ∙ sym (open_answer S p found call.lookup call.path.now call.oflags call.stat d.in-Ok.opening plan d.self.invariant.kept.valid (S.clock + epoch)),
       after c plan,
     )

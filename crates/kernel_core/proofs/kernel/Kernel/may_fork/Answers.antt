@@ -72,7 +72,7 @@ returns-else-is_some d =
     let who = caller S d.args.pid d.args.tid in
     let had = d.in-Some-Some.table.now in
     let none : lowest_free had ≡ None =
-    full_is_none had (d.self.invariant.small d.args.pid had (there c)) (d.lowest.ensures.full.0 (none_of d.lowest.result (sym d.is_some.ensures ∙ d.if-is_some.false))) in
+    full_is_none had (d.self.invariant.kept.small d.args.pid had (there c)) (d.lowest.ensures.full.0 (none_of d.lowest.result (sym d.is_some.ensures ∙ d.if-is_some.false))) in
     let cannot : MakesNone S who d.args.left = λ table own here _ free _.
     not_true (sym (ap is_some (ap lowest_free (same_value _ _ _ here (seen c)) ∙ none)) ∙ free) in
     record {

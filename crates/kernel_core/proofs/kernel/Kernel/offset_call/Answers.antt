@@ -18,11 +18,14 @@ use Rattle.kernel_model.specs.State.{State, Table, tree_of}
 use Rattle.kernel_model.specs.Valid.{IsValid}
 use Rattle.kernel_parts.specs.StreamCalls.{stream_outcome}
 use Rattle.kernel_model.specs.Done.{IsAnswered, IsDone}
+use Rattle.readiness_laws.specs.Watched.{looked_at}
+use Rattle.kernel_core.specs.Kernel.{AreHeld}
 use Rattle.kernel_core.specs.OffsetCalls.{offset_outcome}
 use Rattle.kernel_core.specs.contracts.kernel.Kernel.{the_view}
 use Rattle.kernel_core.proofs.Done.{done_as, done_at, done_seen, lacked, replied_seen}
 use Rattle.kernel_core.proofs.FileCalls.{there_behind, with_tree}
-use Rattle.kernel_core.proofs.OffsetCalls.{IsNoStream, absent_comes, end_outcome_is, left_valid, offset_done, offset_outcome_is, offset_same, offset_valid, stream_done, stream_outcome_is, with_terms}
+use Rattle.kernel_core.proofs.HeldSame.{moved_open_held}
+use Rattle.kernel_core.proofs.OffsetCalls.{IsNoStream, absent_comes, end_outcome_is, left_valid, offset_done, offset_looked, offset_outcome_is, offset_same, offset_valid, stream_done, stream_outcome_is, with_terms}
 use Rattle.kernel_core.proofs.Opens.{IsFound, open_absent, open_found}
 use Rattle.kernel_core.proofs.kernel.Kernel.offset_call.Goals as goal
 use Rattle.kernel_core.proofs.kernel.Kernel.offset_call.Goals.{In-Some}
@@ -48,7 +51,7 @@ returns-in_default d = λ table here.
     let S = the_view d.self.inside in
     let called = call_of_offset d.args.call in
     let had = ap (λ (X : State). get X.tables d.args.pid) d.self.view_is ∙ here in
-    replied_seen S d.args.self.now d.self.view_is (λ X. offset_outcome d.args.constants.now X table d.args.fd called) d.refused.result d.self.invariant.valid
+    replied_seen S d.args.self.now d.self.view_is (λ X. offset_outcome d.args.constants.now X table d.args.fd called) d.refused.result d.self.invariant.kept.valid
     (absent_comes d.args.constants.now S table d.args.fd called d.requires.on
     (open_absent S.opens (get S.tables d.args.pid) table d.args.fd had (sym d.open_of.ensures ∙ d.in_default.is)) ∙ ap replies (sym d.refused.ensures))
 
@@ -56,12 +59,15 @@ returns-in_default d = λ table here.
 
 pub invariant_of-self : goal.invariant_of-self
 invariant_of-self c = record {
-  valid = left_valid (call_of_offset c.args.call) (the_view c.self.inside) c.in-Terminal.which c.on_stream.new.terms c.on_stream.result c.self.invariant.valid
-      c.on_stream.ensures.done;
-  counted = c.self.invariant.counted;
-  few = c.self.invariant.few;
-  small = c.self.invariant.small;
-  processes = c.self.invariant.processes;
+  kept = record {
+    valid = left_valid (call_of_offset c.args.call) (the_view c.self.inside) c.in-Terminal.which c.on_stream.new.terms c.on_stream.result c.self.invariant.kept.valid
+        c.on_stream.ensures.done;
+    counted = c.self.invariant.kept.counted;
+    few = c.self.invariant.kept.few;
+    small = c.self.invariant.kept.small;
+    processes = c.self.invariant.kept.processes;
+  };
+  waits = c.self.invariant.waits;
 }
 
 pub returns-in-Terminal : goal.returns-in-Terminal
@@ -76,7 +82,7 @@ returns-in-Terminal d = λ table here.
     let r = d.on_stream.result in
     at_found c table U r o here
     (sym (stream_outcome_is d.args.constants.now S f.table d.args.fd called d.in-Some.descriptor t.which t.flags d.requires.on f.named (f.opened ∙ ap Some t.is)))
-    (stream_done called S t.which d.on_stream.new.terms r d.self.invariant.valid d.on_stream.ensures.done)
+    (stream_done called S t.which d.on_stream.new.terms r d.self.invariant.kept.valid d.on_stream.ensures.done)
 
 -- ---- an end of channels
 
@@ -109,7 +115,7 @@ returns-in-End d = λ table here.
 pub at_offset-requires : goal.at_offset-requires
 at_offset-requires c =
     there_behind (the_view c.self.inside) c.in-Some.kind
-    (c.self.invariant.valid.nearly.behind c.in-Some.descriptor.id c.in-Some.kind (found (goal.at.at_offset-requires c).In-Some).opened)
+    (c.self.invariant.kept.valid.nearly.behind c.in-Some.descriptor.id c.in-Some.kind (found (goal.at.at_offset-requires c).In-Some).opened)
 
 pub set-requires : goal.set-requires
 set-requires c = record {
@@ -121,15 +127,21 @@ set-requires c = record {
 
 pub invariant_of-self-2 : goal.invariant_of-self-2
 invariant_of-self-2 c = record {
-  valid = subst (λ (h : Held). IsValid (record (the_view c.self.inside) { opens = h.kinds; nodes = c.at_offset.new.tree.nodes; names = c.at_offset.new.tree.names }))
-      (sym c.set.ensures)
-      (offset_valid (call_of_offset c.args.call) c.args.fd (c.self.inside.clock + c.args.constants.now.epoch) c.requires.on (the_view c.self.inside)
-      c.in-Some.descriptor.id c.in-Some.kind c.at_offset.new.kind (found (goal.at.invariant_of-self-2 c).In-Some).opened (c.in_default-kind.not-Terminal, c.in_default-kind-2.not-End)
-      c.self.invariant.valid c.at_offset.new.tree c.in_ok-reply.reply c.in_ok-reply.ensures.done c.in_ok-reply.ensures.nodes);
-  counted = λ o. ap (λ (h : Held). number (get h.counts o)) c.set.ensures ∙ c.self.invariant.counted o;
-  few = c.self.invariant.few;
-  small = c.self.invariant.small;
-  processes = c.self.invariant.processes;
+  kept = record {
+    valid = subst (λ (h : Held). IsValid (record (the_view c.self.inside) { opens = h.kinds; nodes = c.at_offset.new.tree.nodes; names = c.at_offset.new.tree.names }))
+        (sym c.set.ensures)
+        (offset_valid (call_of_offset c.args.call) c.args.fd (c.self.inside.clock + c.args.constants.now.epoch) c.requires.on (the_view c.self.inside)
+        c.in-Some.descriptor.id c.in-Some.kind c.at_offset.new.kind (found (goal.at.invariant_of-self-2 c).In-Some).opened (c.in_default-kind.not-Terminal, c.in_default-kind-2.not-End)
+        c.self.invariant.kept.valid c.at_offset.new.tree c.in_ok-reply.reply c.in_ok-reply.ensures.done c.in_ok-reply.ensures.nodes);
+    counted = λ o. ap (λ (h : Held). number (get h.counts o)) c.set.ensures ∙ c.self.invariant.kept.counted o;
+    few = c.self.invariant.kept.few;
+    small = c.self.invariant.kept.small;
+    processes = c.self.invariant.kept.processes;
+  };
+  waits = subst (λ (h : Held). AreHeld (looked_at (record (the_view c.self.inside) { opens = h.kinds })) c.self.inside.waits) (sym c.set.ensures)
+      (moved_open_held (the_view c.self.inside) c.in-Some.descriptor.id c.in-Some.kind c.at_offset.new.kind c.self.inside.waits (found (goal.at.invariant_of-self-2 c).In-Some).opened
+      (offset_looked (c.self.inside.clock + c.args.constants.now.epoch) c.self.inside.tree c.at_offset.new.tree (call_of_offset c.args.call) c.in-Some.kind c.at_offset.new.kind
+      c.in_ok-reply.reply c.in_ok-reply.ensures.done) c.self.invariant.waits);
 }
 
 pub returns : goal.returns
@@ -147,7 +159,7 @@ returns d = λ table here.
     at_found c table (record S { opens = d.set.new.self.kinds; nodes = t.nodes; names = t.names }) (Ok given) o here
     (sym (offset_outcome_is d.args.constants.now S f.table d.args.fd called d.in-Some.descriptor d.in-Some.kind d.requires.on f.named f.opened unlike))
     (subst (λ (h : Held). IsAnswered o S (record S { opens = h.kinds; nodes = t.nodes; names = t.names }) given) (sym d.set.ensures)
-    (offset_done called d.args.fd now d.requires.on S id d.in-Some.kind d.at_offset.new.kind f.opened unlike d.self.invariant.valid t d.in_ok-reply.reply
+    (offset_done called d.args.fd now d.requires.on S id d.in-Some.kind d.at_offset.new.kind f.opened unlike d.self.invariant.kept.valid t d.in_ok-reply.reply
     d.in_ok-reply.ensures.done d.in_ok-reply.ensures.nodes))
 
 pub returns-in_err-reply : goal.returns-in_err-reply

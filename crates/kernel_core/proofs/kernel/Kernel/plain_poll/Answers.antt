@@ -33,7 +33,7 @@ returns c = λ table here.
     λ i. (poll_outcome (around.constants i) (around.opens i) (around.channels i) (around.statuses i) (around.moment i) (found i) ((c.who.view_is i).since) subscriptions).answer in
     let stays : S ≡ release (put_all o.updates S) =
     sym (ap (λ us. release (put_all us S)) (poll_sets_nothing constants S who table subscriptions)
-    ∙ release_valid S (subst IsValid c.self.view_is c.self.invariant.valid)) in
+    ∙ release_valid S (subst IsValid c.self.view_is c.self.invariant.kept.valid)) in
     done_as (takes_memory (call.Poll subscriptions)) o ((meaning_of (call.Poll subscriptions)).effect constants (whole S) who table) S S c.poll.result
     (sym (poll_does constants S who table subscriptions c.requires.plain))
     (done_of (takes_memory (call.Poll subscriptions)) o S S c.poll.result (IfOk-weaker c.poll.result _ _ (λ given answered. (answered ∙ seen, stays)) c.poll.ensures.ok)

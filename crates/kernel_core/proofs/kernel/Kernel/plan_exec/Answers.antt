@@ -56,7 +56,7 @@ returns-clause-ok d =
       can = is.can;
       small = is.small;
       opens = λ n. subst (λ (t : Table). IsOpenOf d.self.inside.objects.kinds (get t n)) (sym is.table_is)
-          (listed_opens (the_view d.self.inside) who.pid table d.args.fds.now (there c) d.self.invariant.valid.nearly n);
+          (listed_opens (the_view d.self.inside) who.pid table d.args.fds.now (there c) d.self.invariant.kept.valid.nearly n);
       comes = comes c ∙ exec_begins key who.pid who.tid d.in-Some-Some.own.now table d.in-Some-program_of.elf.now d.args.fds.now new is;
     })) done) d.plan_program.ensures.ok
 

@@ -30,7 +30,7 @@ seen c = ap (λ (S : State). get S.processes c.args.who.now.pid) (sym c.self.vie
 pub plan_child-requires : goal.plan_child-requires
 plan_child-requires d =
     let c = (goal.at.plan_child-requires d).In-Some-Some in
-    record { fits = child_fits (the_view c.self.inside) c.args.who.now.pid c.in-Some-Some.own.now (owned c) c.self.invariant.valid.nearly }
+    record { fits = child_fits (the_view c.self.inside) c.args.who.now.pid c.in-Some-Some.own.now (owned c) c.self.invariant.kept.valid.nearly }
 
 -- the thread is the caller's
 tid_is : (c : In-Some-Some) → c.who.inside.0.1.0 ≡ c.args.who.now.tid

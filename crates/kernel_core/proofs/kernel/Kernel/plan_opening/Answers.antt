@@ -38,7 +38,7 @@ returns-in_default-lowest-clause-refused d = λ table here now.
     seen c (λ S t. open_outcome now S d.args.pid t d.args.call.now.lookup d.args.call.now.path.now d.args.call.now.oflags d.args.call.now.stat ≡ replies d.refused-in_default-lowest.result)
     (full_opens_none now (the_view d.self.inside) d.args.pid d.in-Some-Some.table.now d.args.call.now.lookup d.args.call.now.path.now d.args.call.now.oflags d.args.call.now.stat
     d.refused-in_default-lowest.result
-    (full_is_none d.in-Some-Some.table.now (d.self.invariant.small d.args.pid d.in-Some-Some.table.now (there c)) (d.in_default-lowest.ensures.full.0 refl))
+    (full_is_none d.in-Some-Some.table.now (d.self.invariant.kept.small d.args.pid d.in-Some-Some.table.now (there c)) (d.in_default-lowest.ensures.full.0 refl))
     d.refused-in_default-lowest.ensures) table here
 
 pub returns-in_default-open_of-clause-refused : goal.returns-in_default-open_of-clause-refused

@@ -29,7 +29,7 @@ owned : (c : In-Some-Some) → get c.self.inside.processes c.args.who.now.pid �
 owned c = ap (get c.self.inside.processes) (sym (same c)) ∙ sym c.in-Some-Some.ensures'.value
 
 small : (c : In-Some-Some) → IsTable c.in-Some-Some.table.now
-small c = c.self.invariant.small c.args.who.now.pid c.in-Some-Some.table.now (there c)
+small c = c.self.invariant.kept.small c.args.who.now.pid c.in-Some-Some.table.now (there c)
 
 -- what holds of the state as it is kept, and of its table, holds as it is seen
 seen : (c : In-Some-Some) (P : State → Table → Type 0) → P (the_view c.self.inside) c.in-Some-Some.table.now

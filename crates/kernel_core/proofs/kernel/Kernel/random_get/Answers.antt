@@ -1,7 +1,9 @@
-use Rattle.std.proofs.Common.{refl, ◌∙◌}
+use Rattle.std.proofs.Common.{refl, sym, ◌∙◌}
 use Rattle.std.specs.FinMap.{insert}
 use Rattle.kernel_model.specs.Families.ClockCalls.{drawn_by}
+use Rattle.kernel_model.specs.State.{ProcessState}
 use Rattle.kernel_core.specs.contracts.kernel.Kernel.{the_view}
+use Rattle.kernel_core.proofs.HeldSame.{drawn_left, same_threads_held}
 use Rattle.kernel_core.proofs.OwnCalls.{drawn_only, own_call, own_call_done, own_call_kept, IsOwnCall}
 use Rattle.kernel_core.proofs.kernel.Kernel.random_get.Goals as goal
 use Rattle.kernel_core.proofs.kernel.Kernel.random_get.Goals.{After-draw}
@@ -14,11 +16,18 @@ call c =
     c.self.view_is c.get_mut-own.ensures.value refl (drawn_only c.args.constants.now c.args.pid c.get_mut-own.result.now c.args.length)
 
 pub invariant_of-self : goal.invariant_of-self
-invariant_of-self d =
-    let c = (goal.at.invariant_of-self d).After-draw in
-    own_call_kept (call c) c.draw.result c.self.inside.objects.counts c.draw.ensures c.self.invariant
+invariant_of-self d = record {
+  kept =
+      let c = (goal.at.invariant_of-self d).After-draw in
+      own_call_kept (call c) c.draw.result c.self.inside.objects.counts c.draw.ensures c.self.invariant.kept;
+  waits =
+      let c = (goal.at.invariant_of-self d).After-draw in
+      let own : ProcessState = c.get_mut-own.result.now in
+      same_threads_held (the_view c.self.inside) c.self.inside.objects.counts c.from.result own c.draw.new.self c.self.inside.waits c.self.invariant.kept
+      (sym c.get_mut-own.ensures.value) (drawn_left c.args.constants.now c.args.pid own c.draw.new.self c.args.length c.draw.result c.draw.ensures) c.self.invariant.waits;
+}
 
 pub returns : goal.returns
 returns d =
     let c = (goal.at.returns d).After-draw in
-    own_call_done (call c) c.draw.result c.draw.ensures c.self.invariant.valid
+    own_call_done (call c) c.draw.result c.draw.ensures c.self.invariant.kept.valid

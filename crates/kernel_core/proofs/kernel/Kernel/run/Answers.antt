@@ -1,4 +1,4 @@
-use Rattle.std.proofs.Common.{◌≡◌, false, Some, IsSome, is_some, sym, ap, subst, ◌∙◌}
+use Rattle.std.proofs.Common.{◌≡◌, false, Some, IsSome, is_some, sym, ap, subst, ◌∙◌, ◌+◌, arith}
 use Rattle.std.specs.FinMap.{get}
 use Rattle.abi_types.specs.declared.reply.Answer.TheVariants as answer
 use Rattle.abi_types.specs.declared.status.Status.TheVariants.{Live}
@@ -10,9 +10,11 @@ use Rattle.kernel_model.specs.Step.{outcome_by, tick}
 use Rattle.kernel_model.specs.Valid.{IsValid}
 use Rattle.kernel_model.specs.View.{whole}
 use Rattle.kernel_model.specs.Done.{IsAnswered}
+use Rattle.kernel_core.specs.contracts.kernel.Kernel.{the_view}
 use Rattle.kernel_core.proofs.Acts.{done_is_step, lack_is_step}
 use Rattle.kernel_core.proofs.Parks.{park_lacks_is_step, parked_is_step, parked_left, parks_may}
 use Rattle.kernel_core.proofs.Waiters.{thread_is_live}
+use Rattle.kernel_core.proofs.HeldTimes.{all_held_at}
 use Rattle.kernel_core.proofs.kernel.Kernel.run.Goals as goal
 use Rattle.kernel_core.proofs.kernel.Kernel.run.Goals.{In-Ok-Parked}
 
@@ -46,7 +48,7 @@ answered c =
     ∙ ap (λ (S : State). (outcome_by c.args.constants.now (whole (tick S)) c.args.who.now c.args.call.now).answer) c.self.view_is
 
 valid : (c : In-Ok-Parked) → IsValid c.args.self.now
-valid c = subst IsValid c.self.view_is c.self.invariant.valid
+valid c = subst IsValid c.self.view_is c.self.invariant.kept.valid
 
 -- the call is no poll of a lock or a condition variable
 events : (c : In-Ok-Parked) → (meaning_of c.args.call.now).by_stage ≡ false
@@ -83,3 +85,10 @@ returns-in-Err-park-clause-step c =
     let a = (goal.at.returns-in-Err-park-clause-step c).In-Ok-Parked in
     park_lacks_is_step c.args.constants.now c.args.self.now c.args.who.now c.args.call.now c.in-Ok-Parked.writes (events a) (live a) (answered a) c.park.new.self
     (answer.Reply c.refused.result) (c.in-Err-park.ensures.err ∙ left a) (ap answer.Reply c.refused.ensures)
+
+-- ---- the time
+
+pub invariant_of-self : goal.invariant_of-self
+invariant_of-self c =
+    all_held_at (the_view c.self.inside) c.self.inside.objects.counts (c.self.inside.clock + 1000) c.self.inside.waits c.touch_time.new.waits c.self.invariant (omega arith)
+    c.touch_time.ensures

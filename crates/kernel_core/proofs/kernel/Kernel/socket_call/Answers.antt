@@ -1,4 +1,4 @@
-use Rattle.std.proofs.Common.{◌≡◌, ◌^◌, None, Some, Result, Ok, is_some, sym, ap, subst, ◌∙◌}
+use Rattle.std.proofs.Common.{◌≡◌, ℕ, ◌^◌, None, Some, Result, Ok, is_some, refl, sym, ap, subst, ◌∙◌}
 use Rattle.std.specs.FinMap.{get, insert}
 use Rattle.std.specs.declared.alloc.AllocError.{AllocError}
 use Rattle.abi_types.specs.Families.{call_of_socket}
@@ -18,6 +18,11 @@ use Rattle.kernel_parts.specs.Waiting.{fd_of_socket, socket_at}
 use Rattle.kernel_model.specs.Done.{IsDone}
 use Rattle.kernel_core.specs.Sockets.{socket_on}
 use Rattle.kernel_core.specs.contracts.kernel.Kernel.{the_view}
+use Rattle.readiness_laws.specs.Watched.{looked_at}
+use Rattle.kernel_core.specs.Kernel.{AreHeld}
+use Rattle.kernel_core.specs.Readiness.{has_received, left_where_done}
+use Rattle.kernel_core.proofs.HeldChannels.{end_is_held, held_released, socket_keeps}
+use Rattle.kernel_core.proofs.HeldTables.{received_is_held}
 use Rattle.kernel_core.proofs.Released.{kept_released, released_to}
 use Rattle.kernel_core.proofs.Channels.{covered_by, moved_counts, socket_found, socket_going, socket_left_nearly, socket_put, socket_small}
 use Rattle.kernel_core.proofs.Done.{done_as, done_at, lacked, replied_seen}
@@ -41,7 +46,7 @@ returns-in_default d = λ table here.
     let none : open_in S.opens (get table (fd_of_socket d.args.call)) ≡ None =
     open_absent S.opens (get S.tables p) table (fd_of_socket d.args.call) had
     (ap (λ fd. open_with S.opens (get S.tables p) fd) (sym d.socket_fd-fd.ensures) ∙ sym d.open_of.ensures ∙ d.in_default.is) in
-    replied_seen S d.args.self.now d.self.view_is (λ X. socket_on X p table (fd_of_socket d.args.call) called) d.refused.result d.self.invariant.valid
+    replied_seen S d.args.self.now d.self.view_is (λ X. socket_on X p table (fd_of_socket d.args.call) called) d.refused.result d.self.invariant.kept.valid
     (ap (λ o. socket_at p table S.chans o called) none ∙ ap replies (sym d.refused.ensures))
 
 -- the table
@@ -70,7 +75,7 @@ at_found c table U r is here done =
 pub on_socket-requires : goal.on_socket-requires
 on_socket-requires c = record {
   covered = covered_by c.self.inside.tables c.from.result c.get_mut-table.result.now (sym c.get_mut-table.ensures.value) c.self.inside.channels
-      c.self.inside.objects.counts c.self.invariant.counted;
+      c.self.inside.objects.counts c.self.invariant.kept.counted;
 }
 
 -- where memory runs out nothing has changed
@@ -89,10 +94,13 @@ as_before c =
     λ i. record (the_view c.self.inside) { tables = tables i; opens = (e.same_objects i).kinds; chans = (e.done c.args.pid).3 i }
 
 pub invariant_of-self : goal.invariant_of-self
-invariant_of-self d =
-    kept_again (the_view d.self.inside) d.self.inside.objects.counts d.self.invariant (unchanged (goal.at.invariant_of-self d).In_err-answer)
-    d.on_socket.new.objects.counts (as_before (goal.at.invariant_of-self d).In_err-answer)
-    (λ o. ap (λ (h : Held). number (get h.counts o)) d.in_err-answer.ensures.same_objects)
+invariant_of-self d = record {
+  kept =
+      kept_again (the_view d.self.inside) d.self.inside.objects.counts d.self.invariant.kept (unchanged (goal.at.invariant_of-self d).In_err-answer)
+      d.on_socket.new.objects.counts (as_before (goal.at.invariant_of-self d).In_err-answer)
+      (λ o. ap (λ (h : Held). number (get h.counts o)) d.in_err-answer.ensures.same_objects);
+  waits = subst (λ (U : State). AreHeld (looked_at U) d.self.inside.waits) (sym (as_before (goal.at.invariant_of-self d).In_err-answer)) d.self.invariant.waits;
+}
 
 pub returns-in_err-answer : goal.returns-in_err-answer
 returns-in_err-answer d = λ table here.
@@ -107,18 +115,18 @@ returns-in_err-answer d = λ table here.
 pub release-requires-clause-counted : goal.release-requires-clause-counted
 release-requires-clause-counted c =
     moved_counts c.self.inside.tables c.from.result c.get_mut-table.result.now (sym c.get_mut-table.ensures.value) c.self.inside.channels c.self.inside.objects.counts
-    c.self.invariant.counted c.on_socket.new.table c.on_socket.new.channels c.on_socket.new.objects.counts c.on_socket.ensures.counts
+    c.self.invariant.kept.counted c.on_socket.new.table c.on_socket.new.channels c.on_socket.new.objects.counts c.on_socket.ensures.counts
 
 pub release-requires-clause-tables : goal.release-requires-clause-tables
 release-requires-clause-tables c = λ q.
     some_again c.self.inside.tables c.from.result c.get_mut-table.result.now c.on_socket.new.table q (sym c.get_mut-table.ensures.value)
-    ∙ c.self.invariant.valid.nearly.tables q
+    ∙ c.self.invariant.kept.valid.nearly.tables q
 
 pub release-requires-clause-going : goal.release-requires-clause-going
 release-requires-clause-going d =
     let c = (goal.at.release-requires-clause-going d).After-get_mut-table in
     socket_going (the_view d.self.inside) d.args.pid d.get_mut-table.result.now d.in-Some.kind d.args.call (there c)
-    (opened c (found (goal.at.release-requires-clause-going d).In-Some)) d.on_socket.new.channels d.self.invariant.valid
+    (opened c (found (goal.at.release-requires-clause-going d).In-Some)) d.on_socket.new.channels d.self.invariant.kept.valid
     (d.in_ok-answer.ensures.done d.args.pid).2
 
 -- the fields as they are in the end
@@ -142,28 +150,64 @@ left c =
       chans = channels_after o.updates c.self.inside.channels;
     }
 
+tables_left : (c : After-release) → c.from.result ≡ c.args.pid → insert c.self.inside.tables c.from.result c.on_socket.new.table ≡ (left c).tables
+tables_left c same =
+    let k = c.self.inside in
+    ap (insert k.tables c.from.result) (c.in_ok-answer.ensures.done c.args.pid).1
+    ∙ ap (λ q. insert k.tables q (table_after (socket_outcome c.args.pid c.get_mut-table.result.now k.channels c.in-Some.kind (call_of_socket c.args.call)).updates c.get_mut-table.result.now)) same
+
 released : (c : After-release) → c.from.result ≡ c.args.pid → fields c ≡ release (left c)
 released c same =
     let k = c.self.inside in
     let done = c.in_ok-answer.ensures.done c.args.pid in
-    let tables : insert k.tables c.from.result c.on_socket.new.table ≡ (left c).tables =
-    ap (insert k.tables c.from.result) done.1
-    ∙ ap (λ q. insert k.tables q (table_after (socket_outcome c.args.pid c.get_mut-table.result.now k.channels c.in-Some.kind (call_of_socket c.args.call)).updates c.get_mut-table.result.now)) same in
-    released_to (left c) _ _ (λ i. state_by (tables i) k.processes k.statuses (c.on_socket.ensures.kinds i) (done.2 i) k.tree) c.release.ensures.state
+    released_to (left c) _ _ (λ i. state_by (tables_left c same i) k.processes k.statuses (c.on_socket.ensures.kinds i) (done.2 i) k.tree) c.release.ensures.state
+
+-- what the release is given
+abbrev before_release : After-release → State
+before_release c = record (the_view c.self.inside) {
+  tables = insert c.self.inside.tables c.from.result c.on_socket.new.table;
+  opens = c.on_socket.new.objects.kinds;
+  chans = c.on_socket.new.channels;
+}
+
+-- those that stand at the socket's channels are left, and where descriptors came the process's own threads are spread
+held : (c : After-release) → c.from.result ≡ c.args.pid → get c.self.inside.tables c.args.pid ≡ Some c.get_mut-table.result.now
+    → AreHeld (looked_at (before_release c)) c.touch_received.new.waits
+held c same had =
+    let S = the_view c.self.inside in
+    let p : ℕ = c.args.pid in
+    let table = c.get_mut-table.result.now in
+    let kind = c.in-Some.kind in
+    let done = c.in_ok-answer.ensures.done p in
+    let o = socket_outcome p table S.chans kind (call_of_socket c.args.call) in
+    let keeps = socket_keeps S.chans p table kind c.args.call in
+    subst (λ (U : State). AreHeld (looked_at U) c.touch_received.new.waits)
+    (λ i. record S { tables = sym (tables_left c same) i; opens = sym c.on_socket.ensures.kinds i; chans = sym done.2 i })
+    (received_is_held (record S { chans = channels_after o.updates S.chans }) p table (table_after o.updates table) c.touch_answered.new.waits c.touch_received.new.waits
+    (has_received c.in_ok-answer.answer) had (c.self.invariant.kept.processes p (ap is_some had)) (λ fails. keeps.same (sym (ap has_received done.0) ∙ fails))
+    c.touch_received.ensures
+    (end_is_held S kind table o c.self.inside.waits keeps c.self.invariant.waits c.touch_answered.new.waits
+    (c.touch_answered.ensures ∙ ap (λ given. left_where_done given kind c.self.inside.waits) done.0)))
 
 pub invariant_of-self-2 : goal.invariant_of-self-2
-invariant_of-self-2 d =
-    let c = (goal.at.invariant_of-self-2 d).After-release in
-    let g = (goal.at.invariant_of-self-2 d).After-get_mut-table in
-    let S = the_view d.self.inside in
-    let p = d.args.pid in
-    let table = d.get_mut-table.result.now in
-    kept_released (left c) (fields c) d.release.new.objects.counts (released c (d.from.ensures ∙ d.pid.view_is))
-    (socket_left_nearly S p table d.in-Some.kind d.args.call (there g) (opened g (found (goal.at.invariant_of-self-2 d).In-Some)) d.self.invariant.valid.nearly)
-    d.release.ensures.counted (d.release.ensures.few (d.on_socket.ensures.few_carriers d.self.invariant.few))
-    (small_set d.self.inside.tables p _ d.self.invariant.small
-    (socket_small d.self.inside.channels p table d.in-Some.kind d.args.call (d.self.invariant.small p table (there g))))
-    (below-insert_again (2 ^ 32) d.self.inside.tables p _ d.self.invariant.processes (ap is_some (there g)))
+invariant_of-self-2 d = record {
+  kept =
+      let c = (goal.at.invariant_of-self-2 d).After-release in
+      let g = (goal.at.invariant_of-self-2 d).After-get_mut-table in
+      let S = the_view d.self.inside in
+      let p = d.args.pid in
+      let table = d.get_mut-table.result.now in
+      kept_released (left c) (fields c) d.release.new.objects.counts (released c (d.from.ensures ∙ d.pid.view_is))
+      (socket_left_nearly S p table d.in-Some.kind d.args.call (there g) (opened g (found (goal.at.invariant_of-self-2 d).In-Some)) d.self.invariant.kept.valid.nearly)
+      d.release.ensures.counted (d.release.ensures.few (d.on_socket.ensures.few_carriers d.self.invariant.kept.few))
+      (small_set d.self.inside.tables p _ d.self.invariant.kept.small
+      (socket_small d.self.inside.channels p table d.in-Some.kind d.args.call (d.self.invariant.kept.small p table (there g))))
+      (below-insert_again (2 ^ 32) d.self.inside.tables p _ d.self.invariant.kept.processes (ap is_some (there g)));
+  waits =
+      let c = (goal.at.invariant_of-self-2 d).After-release in
+      held_released (before_release c) (fields c) d.touch_received.new.waits d.release.new.waits
+      (held c (d.from.ensures ∙ d.pid.view_is) (there (goal.at.invariant_of-self-2 d).After-get_mut-table)) d.release.ensures.touched refl;
+}
 
 pub returns : goal.returns
 returns d = λ table here.

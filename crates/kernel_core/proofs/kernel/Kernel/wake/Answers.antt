@@ -1,4 +1,4 @@
-use Rattle.std.proofs.Common.{◌≡◌, ℕ, true, Some, is_some, sym, ap, refl, subst, ◌∙◌}
+use Rattle.std.proofs.Common.{◌≡◌, ℕ, true, Some, is_some, sym, ap, refl, subst, ◌∙◌, ◌+◌, arith}
 use Rattle.abi_base.specs.declared.errno.Errno.TheVariants.{Fault}
 use Rattle.abi_types.specs.declared.call.Call.{Call}
 use Rattle.abi_types.specs.declared.constants.Constants.{Constants}
@@ -23,6 +23,7 @@ use Rattle.kernel_core.specs.contracts.kernel.Kernel.{the_view}
 use Rattle.kernel_core.proofs.Asking.{queues_ahead, same_stage}
 use Rattle.kernel_core.proofs.Parks.{same_kept, waits_in_kept}
 use Rattle.kernel_core.proofs.Steps.{step_refused}
+use Rattle.kernel_core.proofs.HeldTimes.{all_held_at}
 use Rattle.kernel_core.proofs.kernel.Kernel.wake.Goals as goal
 use Rattle.kernel_core.proofs.kernel.Kernel.wake.Goals.{After-go_on-answer}
 
@@ -105,3 +106,10 @@ returns-in-Some-resume-clause-others c = λ since stage call q waits untouched.
 pub returns-in-Some-resume-clause-refused : goal.returns-in-Some-resume-clause-refused
 returns-in-Some-resume-clause-refused c = λ reply is fails.
     step_refused _ _ _ _ _ _ reply c.go_on-answer.ensures.valid c.go_on-answer.ensures.step is fails ∙ ap tick c.resume-in-Plain.ensures.runs
+
+-- ---- the time
+
+pub invariant_of-self : goal.invariant_of-self
+invariant_of-self c =
+    all_held_at (the_view c.self.inside) c.self.inside.objects.counts (c.self.inside.clock + 1000) c.self.inside.waits c.touch_time.new.waits c.self.invariant (omega arith)
+    c.touch_time.ensures

@@ -14,8 +14,8 @@ use Rattle.kernel_parts.proofs.process.ProcessState.lock_poll.Goals as goal
 only_answers : (own : ProcessState) (given : Answer) (o : Outcome) → given ≡ o.answer → o.updates ≡ [] → IsOwnStep own own given o
 only_answers own given o is none = (is, sym (ap (λ (us : List Update). own_after us own) none))
 
-pub returns-in-LockRdlock : goal.returns-in-LockRdlock
-returns-in-LockRdlock c = λ p.
+pub returns-in-LockRdlock-clause-step : goal.returns-in-LockRdlock-clause-step
+returns-in-LockRdlock-clause-step c = λ p.
     let who = c.args.who.now in
     let first = c.args.first.now in
     let own = Some c.args.self.now in
@@ -25,8 +25,8 @@ returns-in-LockRdlock c = λ p.
     (c.lock_answer.ensures ∙ ap (λ w. (asked w).answer) c.in-LockRdlock.is ∙ sym (ap (λ w. (outcome w).answer) c.in-LockRdlock.is))
     (ap (λ w. (outcome w).updates) c.in-LockRdlock.is ∙ lock_sets first.userdata (LockRdlock c.in-LockRdlock.lock c.in-LockRdlock.word c.in-LockRdlock.scope) true who.tid c.in-LockRdlock.lock c.in-LockRdlock.word who.stage own)
 
-pub returns-in-LockWrlock : goal.returns-in-LockWrlock
-returns-in-LockWrlock c = λ p.
+pub returns-in-LockWrlock-clause-step : goal.returns-in-LockWrlock-clause-step
+returns-in-LockWrlock-clause-step c = λ p.
     let who = c.args.who.now in
     let first = c.args.first.now in
     let own = Some c.args.self.now in
@@ -36,8 +36,8 @@ returns-in-LockWrlock c = λ p.
     (c.lock_answer-in-LockWrlock.ensures ∙ ap (λ w. (asked w).answer) c.in-LockWrlock.is ∙ sym (ap (λ w. (outcome w).answer) c.in-LockWrlock.is))
     (ap (λ w. (outcome w).updates) c.in-LockWrlock.is ∙ lock_sets first.userdata (LockWrlock c.in-LockWrlock.lock c.in-LockWrlock.word c.in-LockWrlock.scope) false who.tid c.in-LockWrlock.lock c.in-LockWrlock.word who.stage own)
 
-pub returns-in-Some : goal.returns-in-Some
-returns-in-Some c = λ p.
+pub returns-in-Some-clause-step : goal.returns-in-Some-clause-step
+returns-in-Some-clause-step c = λ p.
     let who = c.args.who.now in
     let first = c.args.first.now in
     let own = Some c.args.self.now in

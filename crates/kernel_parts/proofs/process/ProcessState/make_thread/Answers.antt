@@ -1,5 +1,5 @@
-use Rattle.std.proofs.Common.{◌≡◌, ℕ, Some, refl, sym, ap, subst, ◌∙◌}
-use Rattle.std.specs.FinMap.{insert}
+use Rattle.std.proofs.Common.{◌≡◌, ℕ, ◌<◌, ◌^◌, None, Some, refl, sym, ap, subst, ◌∙◌}
+use Rattle.std.specs.FinMap.{get, insert}
 use Rattle.abi_types.specs.declared.reply.Answer.TheVariants as answer
 use Rattle.abi_types.specs.declared.thread.Thread.TheVariants.{Runnable}
 use Rattle.kernel_model.specs.Families.ProcessCalls.{made_in}
@@ -13,18 +13,20 @@ use Rattle.kernel_parts.specs.contracts.process.ProcessState.{the_view}
 use Rattle.kernel_parts.proofs.FewThreads.{few_new}
 use Rattle.kernel_parts.proofs.Done.{own_lacked}
 use Rattle.kernel_parts.proofs.OwnCalls.{can_be_given, made_with, not_made}
+use Rattle.kernel_parts.specs.Touching.{lacking, made}
 use Rattle.kernel_parts.proofs.process.ProcessState.make_thread.Goals as goal
+use Rattle.kernel_parts.proofs.process.ProcessState.make_thread.Goals.{After-ensure_entry}
 
-pub returns-in_default : goal.returns-in_default
-returns-in_default c = λ p.
+pub returns-in_default-clause-done : goal.returns-in_default-clause-done
+returns-in_default-clause-done c = λ p.
     let own = c.args.self.now in
     let none = not_made p c.args.tid own c.in_default.ensures in (
       ap answer.Reply c.refused.ensures ∙ sym (ap (λ (o : Outcome). o.answer) none),
       sym (ap (λ (o : Outcome). own_after o.updates own) none),
     )
 
-pub returns : goal.returns
-returns c = λ p.
+pub returns-clause-done : goal.returns-clause-done
+returns-clause-done c = λ p.
     let own = c.args.self.now in
     let V : ProcessState = the_view c.self.inside in
     let made = made_with p c.args.tid c.in-Some.number own c.in-Some.ensures in
@@ -36,9 +38,9 @@ returns c = λ p.
           ∙ sym (ap (λ (o : Outcome). own_after o.updates own) made.0),
     )
 
-pub returns-in_err-insert : goal.returns-in_err-insert
-returns-in_err-insert c = λ p.
-    own_lacked (made_in p c.args.tid (Some c.args.self.now)) c.args.self.now _ c.from_residual.result c.from_residual.ensures.0
+pub returns-in_err-insert-clause-done : goal.returns-in_err-insert-clause-done
+returns-in_err-insert-clause-done c = λ p.
+    own_lacked (made_in p c.args.tid (Some c.args.self.now)) c.args.self.now _ c.from_residual-in_err-insert.result c.from_residual-in_err-insert.ensures.0
     (subst (λ (o : Outcome). IsSuccess o.answer) (sym (made_with p c.args.tid c.in-Some.number c.args.self.now c.in-Some.ensures).0) refl)
     ((λ i. record (the_view c.self.inside) { threads = c.in_err-insert.ensures.err i }) ∙ c.self.view_is)
 
@@ -48,3 +50,26 @@ invariant_of-self-2 c =
     let can = can_be_given c.args.tid c.in-Some.number V (c.in-Some.ensures ∙ ap (new_thread c.args.tid) (sym c.self.view_is)) in
     subst AreFew (sym (c.in_ok-insert.ensures.ok ∙ ap (λ (k : ℕ). insert V.threads k Runnable) c.from-key.ensures))
     (few_new V.threads c.in-Some.number Runnable can.0 can.1 can.2 c.self.invariant)
+
+pub returns-in_err-ensure_entry-clause-done : goal.returns-in_err-ensure_entry-clause-done
+returns-in_err-ensure_entry-clause-done c = λ p.
+    own_lacked (made_in p c.args.tid (Some c.args.self.now)) c.args.self.now _ c.from_residual.result c.from_residual.ensures.0
+    (subst (λ (o : Outcome). IsSuccess o.answer) (sym (made_with p c.args.tid c.in-Some.number c.args.self.now c.in-Some.ensures).0) refl) refl
+
+-- ---- its entry
+
+free : (c : After-ensure_entry) → (get c.args.self.now.threads c.in-Some.number ≡ None) × (c.in-Some.number < 2 ^ 30)
+free c = let can = can_be_given c.args.tid c.in-Some.number c.args.self.now c.in-Some.ensures in (can.0, can.1)
+
+pub returns-in_err-insert-clause-entry : goal.returns-in_err-insert-clause-entry
+returns-in_err-insert-clause-entry d =
+    let c = (goal.at.returns-in_err-insert-clause-entry d).After-ensure_entry in
+    lacking d.in-Some.number (free c).1 (free c).0
+    (d.in_err-insert.ensures.err ∙ ap (λ (own : ProcessState). own.threads) d.self.view_is) d.in_ok-ensure_entry.ensures.ok
+
+pub returns-clause-entry : goal.returns-clause-entry
+returns-clause-entry d =
+    let c = (goal.at.returns-clause-entry d).After-ensure_entry in
+    made d.in-Some.number (free c).1 (free c).0
+    (d.in_ok-insert.ensures.ok ∙ ap (λ (k : ℕ). insert d.self.inside.threads k Runnable) d.from-key.ensures
+    ∙ ap (λ (own : ProcessState). insert own.threads d.in-Some.number Runnable) d.self.view_is) d.in_ok-ensure_entry.ensures.ok

@@ -7,9 +7,9 @@ use Rattle.kernel_cell.specs.declared.results.Came.{Came}
 use Rattle.kernel_cell.specs.declared.results.Doing.TheVariants as doing
 use Rattle.process_cell.specs.Process.{standing_of}
 use Rattle.process_cell.specs.Standing.{Standing}
-use Rattle.process_cell.specs.Steps.{IsAsked, IsCalled, TellsWait}
+use Rattle.process_cell.specs.Steps.{IsAsked, IsCalled}
 use Rattle.process_cell.specs.declared.results.Phase.TheVariants as phase
-use Rattle.process_cell.proofs.Outcomes.{asked_tells, wait_is_told, plain_call}
+use Rattle.process_cell.proofs.Outcomes.{asked_tells, plain_call}
 use Rattle.process_cell.proofs.Ties.{asks_call, calls_there, has_place, has_registers, no_fork, tied_came, tied_forks}
 use Rattle.process_cell.proofs.process.Process.call.Goals as goal
 
@@ -24,12 +24,6 @@ returns-in_default-clause-called g c =
     subst (λ (result : Came After). IsCalled g.J.Naming.launch c.args.tid c.args.self.now (standing_of v.pass v.body phase.Lost) result c.unasked.result.gives_way)
     (sym c.unasked.ensures.came)
     (inl (args_of v.body.guest.memory (registers_of v.body.guest c.args.tid) v.body.guest.left, (refl, ap (λ (s : Standing). s.own) c.self.view_is)))
-
-pub returns-in_default-clause-told : goal.returns-in_default-clause-told
-returns-in_default-clause-told g c =
-    let v = c.self.inside in
-    subst (λ (result : Came After). TellsWait g.J.Naming.launch c.args.tid (standing_of v.pass v.body phase.Lost) result c.args.told.now)
-    (sym c.unasked.ensures.came) tt
 
 pub invariant_of-self-in-ProcFork : goal.invariant_of-self-in-ProcFork
 invariant_of-self-in-ProcFork g c =
@@ -78,9 +72,3 @@ returns-clause-called g c =
           (plain_call c.in-Ok.call (no_fork c.in-Ok.call c.in_default-call.not-ProcFork)) (λ is. c.answered.ensures.gives (c.gives_way-yields.ensures ∙ is))
           c.act-came.ensures.acted c.settle-self-inside.ensures.threads c.settle-self-inside.ensures.phase c.self.view_is),
     )
-
-pub returns-clause-told : goal.returns-clause-told
-returns-clause-told g c =
-    wait_is_told g.J.Naming.launch c.act-came.new.pass c.self.inside.pass.pid c.args.tid (asked.Calls c.in-Ok.call) c.act-came.result c.answered.result.came c.args.told.now
-    c.act-came.new.told (record c.act-came.new.body { threads = c.settle-self-inside.new.threads }) c.settle-self-inside.result c.act-came.ensures.acted.pid
-    c.act-came.ensures.times c.answered.ensures.came

@@ -7,7 +7,7 @@ use Rattle.kernel_cell.specs.declared.results.Doing.TheVariants as doing
 use Rattle.process_cell.specs.Process.{standing_of}
 use Rattle.process_cell.specs.Standing.{Standing}
 use Rattle.process_cell.specs.Steps.{IsAsked}
-use Rattle.process_cell.proofs.Outcomes.{asked_tells, wait_is_told, plain_end}
+use Rattle.process_cell.proofs.Outcomes.{asked_tells, plain_end}
 use Rattle.process_cell.proofs.Ties.{asks_end, due_runs, due_stands, has_place, tied_came}
 use Rattle.process_cell.proofs.process.Process.end.Goals as goal
 
@@ -49,9 +49,3 @@ returns-clause-ended g c =
     (asked_tells g.J.Naming.launch c.self.invariant.0 v.pass c.act-came.new.pass c.args.tid v.body c.act-came.new.body v.phase stands (asked.Ends c.args.how)
     c.act-came.result c.answered.result.gives_way c.settle-self-inside.new.threads c.settle-self-inside.result c.args.self.now runs (λ wakes. absurd wakes)
     (plain_end c.args.how) tt c.act-came.ensures.acted c.settle-self-inside.ensures.threads c.settle-self-inside.ensures.phase c.self.view_is)
-
-pub returns-clause-told : goal.returns-clause-told
-returns-clause-told g c =
-    wait_is_told g.J.Naming.launch c.act-came.new.pass c.self.inside.pass.pid c.args.tid (asked.Ends c.args.how) c.act-came.result c.answered.result.came c.args.told.now
-    c.act-came.new.told (record c.act-came.new.body { threads = c.settle-self-inside.new.threads }) c.settle-self-inside.result c.act-came.ensures.acted.pid
-    c.act-came.ensures.times c.answered.ensures.came

@@ -5,7 +5,7 @@ use Rattle.kernel_cell.specs.declared.results.Came.{Came}
 use Rattle.kernel_cell.specs.declared.results.Doing.TheVariants as doing
 use Rattle.process_cell.specs.Process.{standing_of}
 use Rattle.process_cell.specs.Steps.{IsAsked}
-use Rattle.process_cell.proofs.Outcomes.{asked_tells, wait_is_told, plain_wake}
+use Rattle.process_cell.proofs.Outcomes.{asked_tells, plain_wake}
 use Rattle.process_cell.proofs.Ties.{asks_wake, between, does, has_place, phase_is, tied_came}
 use Rattle.process_cell.proofs.process.Process.finish.Goals as goal
 
@@ -44,9 +44,3 @@ returns-clause-finished g c =
     c.act-came.result c.answered.result.gives_way c.settle-self-inside.new.threads c.settle-self-inside.result c.args.self.now waits
     (λ _. phase_is g.J.Naming.launch v.pass c.args.tid v.body v.phase c.args.self.now c.self.invariant.1 c.self.view_is c.requires.0) plain_wake
     (c.answered.ensures.gives refl) c.act-came.ensures.acted c.settle-self-inside.ensures.threads c.settle-self-inside.ensures.phase c.self.view_is)
-
-pub returns-clause-told : goal.returns-clause-told
-returns-clause-told g c =
-    wait_is_told g.J.Naming.launch c.act-came.new.pass c.self.inside.pass.pid c.args.tid asked.Wakes c.act-came.result c.answered.result.came c.args.told.now
-    c.act-came.new.told (record c.act-came.new.body { threads = c.settle-self-inside.new.threads }) c.settle-self-inside.result c.act-came.ensures.acted.pid
-    c.act-came.ensures.times c.answered.ensures.came

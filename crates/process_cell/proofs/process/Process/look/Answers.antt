@@ -11,9 +11,9 @@ invariant_of-self g c =
       c.self.invariant.0,
       elim c.if-lives.branch [
         | then-lives w ↦ subst (Tied g.J.Naming.launch c.look-lives.new.pass v.body) (sym w.self-is)
-            (looked_lives g.J.Naming.launch c.self.invariant.0 v.pass c.look-lives.new.pass v.body c.look-lives.result.0 c.look-lives.result.1 tied
+            (looked_lives g.J.Naming.launch c.self.invariant.0 v.pass c.look-lives.new.pass v.body c.look-lives.result tied
             c.look-lives.ensures w.if-lives.true)
         | else-lives w ↦ subst (Tied g.J.Naming.launch c.look-lives.new.pass v.body) (sym w.self-is)
-            (looked_gone g.J.Naming.launch v.pass c.look-lives.new.pass v.body c.look-lives.result.0 c.look-lives.result.1 c.look-lives.ensures w.if-lives.false)
+            (looked_gone g.J.Naming.launch v.pass c.look-lives.new.pass v.body c.look-lives.result c.look-lives.ensures w.if-lives.false)
       ],
     )

@@ -1,0 +1,335 @@
+//! Which threads are ready: their marks, and where they stand, brought up to date after a change.
+ghost use Rattle.std.specs.Prelude.{◌≡◌, ◌<◌, ◌&&◌, ◌^◌, Some, IsSome, IfOk, OnOk, OnErr, option_copied, option_map};
+ghost use Rattle.std.specs.FinMap as map;
+ghost use Rattle.kernel_core.specs.Readiness.{at_key, has_received, is_concerned_in, left_where_done, places_by_key, places_of, ready_by_key, seen, stood, thread_by_key, waits_no_more, HasStood, IsGathered, IsSettled};
+ghost use Rattle.kernel_model.specs.OwnChanges.{is_done};
+ghost use Rattle.kernel_model.specs.Waits.{HasDeadlines};
+ghost use Rattle.kernel_parts.specs.Keys.{is_own, key};
+ghost use Rattle.kernel_parts.specs.Touching.{HasEach, spread_if};
+ghost use Rattle.readiness_laws.specs.NextReady.{thread_at, IsNextReady};
+ghost use Rattle.wait_set.specs.Waits.{fresh, is_due, is_everywhere, touched, where_so};
+
+use crate::kernel::Kernel;
+use abi_types::{Answer, Constants, Errno, OpenKind, Payload, Pid, Reply, Thread, Tid};
+use fd_table::FdTable;
+use kernel_parts::{
+    ProcessState, goes_on, thread_key, thread_of_key, touch_end, touch_number, touch_numbers,
+    wait_spots,
+};
+use maps::NumMap;
+use object_store::Objects;
+use poll_set::Surroundings;
+use std::alloc::{AllocError, Global};
+use std::marker::Brand;
+use std::sync::ledger::{Blank, Ledger};
+use wait_set::{Parts, Spot, Steps, WaitSet};
+
+// Time has gone on: those that wait until a moment that has come since are left, and those that stand everywhere.
+pub(crate) fn touch_time(waits: &mut WaitSet, before: u64, now: u64)
+    ensures { waits.new ≡ where_so is_everywhere (λ _ s. touched s) (where_so (is_due (Some before) (Some now)) (λ _ s. touched s) waits.old) }
+{
+    waits.touch_moments(Some(before), now);
+    waits.touch_everywhere();
+}
+
+// Whether a call was done, and succeeded.
+pub(crate) fn has_succeeded(answer: &Answer) -> bool
+    ensures { result ≡ is_done answer.now }
+{
+    matches!(
+        answer,
+        Answer::Reply(Reply {
+            errno: Errno::Success,
+            ..
+        })
+    )
+}
+
+// Those that wait at the channels of an end are left, where a call on it was done.
+pub(crate) fn touch_answered(waits: &mut WaitSet, kind: &OpenKind, answer: &Answer)
+    ensures { waits.new ≡ left_where_done answer.now kind.now waits.old }
+{
+    if has_succeeded(answer) {
+        touch_end(waits, kind);
+    }
+}
+
+// Whether a call was done by which descriptors came.
+fn has_received(answer: &Answer) -> bool
+    ensures { result ≡ has_received answer.now }
+{
+    let Answer::Reply(reply) = answer else {
+        return false;
+    };
+    match &reply.payload {
+        Payload::Received { fds, .. } => !fds.as_slice().is_empty(),
+        _ => false,
+    }
+}
+
+// The threads of a process are left, where a call was done by which it got descriptors.
+pub(crate) fn touch_received(waits: &mut WaitSet, pid: Pid, answer: &Answer)
+    ensures { HasEach (λ k. spread_if (has_received answer.now && is_own pid k)) waits.old waits.new }
+{
+    if has_received(answer) {
+        touch_numbers(waits, pid);
+    }
+}
+
+// The number stands for something else in a process: those of its threads that wait on it are left.
+pub(crate) fn touch_number_of(
+    waits: &mut WaitSet,
+    processes: &NumMap<ProcessState>,
+    pid: Pid,
+    fd: u32,
+)
+    ensures { HasEach (λ k. spread_if (is_concerned_in pid fd (map.get processes.now pid) k)) waits.old waits.new }
+{
+    if let Some(own) = processes.get(u64::from(pid.0)) {
+        touch_number(waits, pid, own, fd);
+    }
+}
+
+// What readiness hangs on.
+#[derive(Drop)]
+struct Looked<'a> {
+    around: Surroundings<'a>,
+    tables: &'a NumMap<FdTable>,
+    processes: &'a NumMap<ProcessState>,
+}
+
+impl Parts for Looked<'_> {
+    ghost ready = { λ l. ready_by_key l.around.constants.now l.around.objects.now.kinds l.around.channels.now l.around.statuses.now l.around.now l.tables.now l.processes.now };
+
+    fn is_ready<L: Ledger>(&self, thread: u64, steps: &mut Steps<L>) -> bool {
+        steps.tick();
+        let (pid, tid) = thread_of_key(thread);
+        let p = u64::from(pid.0);
+        match self.processes.get(p) {
+            Some(own) => waits_no_more(self.around, self.tables.get(p), own.thread(tid)),
+            None => false,
+        }
+    }
+}
+
+// Whether a thread of the process that has this table waits and goes on now.
+fn waits_no_more(around: Surroundings<'_>, table: Option<&FdTable>, thread: Option<&Thread>) -> bool
+    ensures { result ≡ waits_no_more around.entry.constants.now around.entry.objects.now.kinds around.entry.channels.now around.entry.statuses.now around.entry.now (option_copied table.entry) (option_copied thread.entry) }
+{
+    match thread {
+        Some(
+            Thread::Waits {
+                call,
+                since,
+                until,
+                stage,
+            },
+        ) => goes_on(around, table, call, *since, *until, *stage),
+        _ => false,
+    }
+}
+
+// Where a thread that waits stands, as its call looks at things now. `Err` where memory ran out.
+fn spots_of(
+    alloc: Global,
+    objects: &Objects,
+    table: Option<&FdTable>,
+    thread: Option<&Thread>,
+) -> Result<Vec<Spot>, AllocError>
+    ensures { IfOk result (λ spots. spots.items ≡ places_of objects.now.kinds (option_copied table.entry) (option_copied thread.entry)) }
+{
+    match thread {
+        Some(Thread::Waits { call, until, .. }) => wait_spots(alloc, objects, table, call, *until),
+        _ => Ok(Vec::new(alloc)),
+    }
+}
+
+// What the thread with this number does, if there is one.
+fn thread_at(processes: &NumMap<ProcessState>, key: u64) -> Option<&Thread>
+    ensures { option_copied result ≡ thread_by_key processes.now key }
+{
+    let (pid, tid) = thread_of_key(key);
+    processes.get(u64::from(pid.0))?.thread(tid)
+}
+
+// Has a thread that has an entry stand where its call looks. `Err` where memory lacks for that, and changes nothing.
+fn stand_anew(
+    waits: &mut WaitSet,
+    alloc: Global,
+    objects: &Objects,
+    tables: &NumMap<FdTable>,
+    processes: &NumMap<ProcessState>,
+    key: u64,
+) -> Result<(), AllocError>
+    requires { IsSome (map.get waits.old key) }
+    ensures ok { OnOk result (HasEach (at_key key (stood (places_by_key objects.now.kinds tables.now processes.now key))) waits.old waits.new) }
+    ensures err { OnErr result (waits.new ≡ waits.old) }
+{
+    let (pid, _) = thread_of_key(key);
+    let table = tables.get(u64::from(pid.0));
+    let spots = spots_of(alloc, objects, table, thread_at(processes, key))?;
+    waits.stand_anew(key, spots.as_slice())
+}
+
+// A thread that begins to wait, and has an entry, stands where its call looks, and where memory lacks for that everywhere. It is left.
+pub(crate) fn stand(
+    waits: &mut WaitSet,
+    alloc: Global,
+    objects: &Objects,
+    tables: &NumMap<FdTable>,
+    processes: &NumMap<ProcessState>,
+    key: u64,
+)
+    ensures { HasStood key (places_by_key objects.now.kinds tables.now processes.now key) waits.old waits.new }
+{
+    if !waits.contains(key) {
+        return;
+    }
+    if stand_anew(waits, alloc, objects, tables, processes, key).is_err() {
+        waits.spread(key, true);
+    }
+    waits.touch_thread(key);
+}
+
+// A thread has no entry from here on.
+pub(crate) fn end_entry(waits: &mut WaitSet, pid: Pid, number: u32)
+    ensures small { number < 2 ^ 32 }
+    ensures gone { waits.new ≡ map.remove waits.old (key pid number) }
+{
+    waits.remove(thread_key(pid, Tid(number)));
+}
+
+// A thread stands nowhere from here on, and is left.
+pub(crate) fn clear_entry(waits: &mut WaitSet, key: u64)
+    ensures { HasEach (at_key key (λ _. fresh)) waits.old waits.new }
+{
+    if waits.contains(key) {
+        waits.clear(key);
+    }
+}
+
+// Has those that stand everywhere stand where their calls look, as far as there is memory for that.
+fn gather(
+    waits: &mut WaitSet,
+    alloc: Global,
+    objects: &Objects,
+    tables: &NumMap<FdTable>,
+    processes: &NumMap<ProcessState>,
+)
+    ensures { IsGathered (places_by_key objects.now.kinds tables.now processes.now) waits.old waits.new }
+{
+    let mut after = None;
+    while let Some(key) = waits.next_everywhere(after) {
+        let _ = stand_anew(waits, alloc, objects, tables, processes, key);
+        after = Some(key);
+    }
+}
+
+// Looks once at each thread that is left, and has those that stand everywhere stand where their calls look. None is left then.
+fn settle_waits<L: Ledger>(
+    waits: &mut WaitSet,
+    alloc: Global,
+    looked: &Looked<'_>,
+    steps: &mut Steps<L>,
+)
+    ensures { IsSettled looked.now.around.constants.now (seen looked.now.around.objects.now.kinds looked.now.around.channels.now looked.now.around.statuses.now looked.now.around.now looked.now.tables.now looked.now.processes.now) waits.old waits.new }
+{
+    if !waits.has_left() {
+        return;
+    }
+    waits.settle_all(looked, steps);
+    gather(
+        waits,
+        alloc,
+        looked.around.objects,
+        looked.tables,
+        looked.processes,
+    );
+}
+
+impl Kernel {
+    // The ready thread with the least number above this one, or of all, once each was looked at that is left.
+    fn settle_next<L: Ledger>(
+        &mut self,
+        constants: &Constants,
+        after: Option<u64>,
+        steps: &mut Steps<L>,
+    ) -> Option<u64>
+        requires deadlines { HasDeadlines constants.now self.old }
+        ensures same { self.new ≡ self.old }
+        ensures next { IsNextReady constants.now self.old (option_map thread_at after) (option_map thread_at result) }
+    {
+        let looked = Looked {
+            around: Surroundings {
+                constants,
+                objects: &self.objects,
+                channels: &self.channels,
+                statuses: &self.statuses,
+                now: self.clock,
+            },
+            tables: &self.tables,
+            processes: &self.processes,
+        };
+        settle_waits(&mut self.waits, self.alloc, &looked, steps);
+        self.waits.next_ready(after)
+    }
+
+    /// Looks once at each thread that a change may have made ready or not ready, which none is then.
+    pub fn settle<L: Ledger>(&mut self, constants: &Constants, steps: &mut Steps<L>)
+        requires deadlines { HasDeadlines constants.now self.old }
+        ensures { self.new ≡ self.old }
+    {
+        self.settle_next(constants, None, steps);
+    }
+
+    // The same as `settle_next`, where nobody counts.
+    fn next_by<L: Ledger>(
+        &mut self,
+        constants: &Constants,
+        after: Option<u64>,
+        blank: Blank,
+    ) -> Option<u64>
+        requires name { blank.name ≡ L.name }
+        requires parts { blank.parts ≡ L.parts }
+        requires some { 0 < blank.parts }
+        requires deadlines { HasDeadlines constants.now self.old }
+        ensures same { self.new ≡ self.old }
+        ensures next { IsNextReady constants.now self.old (option_map thread_at after) (option_map thread_at result) }
+    {
+        self.settle_next(constants, after, &mut Steps::<L>::new(blank))
+    }
+
+    /// The ready thread with the least numbers behind this one, or of all, in a run with these constants.
+    pub fn next_ready(
+        &mut self,
+        constants: &Constants,
+        after: Option<(Pid, Tid)>,
+    ) -> Option<(Pid, Tid)>
+        requires deadlines { HasDeadlines constants.now self.old }
+        ensures same { self.new ≡ self.old }
+        ensures next { IsNextReady constants.now self.old after result }
+    {
+        let after = match after {
+            Some((pid, tid)) => Some(thread_key(pid, tid)),
+            None => None,
+        };
+        let key = self.next_by::<Brand>(constants, after, Blank::new(1))?;
+        Some(thread_of_key(key))
+    }
+
+    /// Whether some thread became ready, or is no more, since this was last asked. Who is ready is told by `next_ready`.
+    pub fn take_news(&mut self, constants: &Constants) -> bool
+        requires deadlines { HasDeadlines constants.now self.old }
+        ensures { self.new ≡ self.old }
+    {
+        self.next_by::<Brand>(constants, None, Blank::new(1));
+        self.waits.take_news()
+    }
+
+    /// A thread that is no more, since its process has ended, or another program began in it, and of which nobody was told.
+    pub fn take_gone(&mut self) -> Option<(Pid, Tid)>
+        ensures { self.new ≡ self.old }
+    {
+        self.waits.take_gone().map(|key| thread_of_key(key))
+    }
+}

@@ -1,0 +1,5 @@
+use Rattle.process_cell.proofs.RunOutcomes.{driven_is}
+use Rattle.process_cell.proofs.workers.drive.Goals as goal
+
+pub returns : goal.returns
+returns g c = driven_is c.args.begun.launch c.args.begun.keeps_all c.run_named.result c.outcome.result c.run_named.ensures c.outcome.ensures

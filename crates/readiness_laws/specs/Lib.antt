@@ -1,0 +1,13 @@
+pub mod Spots
+pub mod LocalityLaws
+pub mod Changes
+pub mod ChangeLaws
+pub mod MarkLaws
+pub mod OtherLaws
+pub mod PlaceLaws
+pub mod SpotLaws
+pub mod CountLaws
+pub mod Watched
+pub mod WatchedChanges
+pub mod NextReady
+pub mod WatchLaws
