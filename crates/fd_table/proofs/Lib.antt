@@ -1,3 +1,3 @@
-pub mod Copies
+pub mod Filled
 pub mod Marked
 pub mod Picks

@@ -2,17 +2,19 @@
 --     none_past      a number behind the words has no bit
 --     mark_set, marks_kept      the bit of a number, and those of the others, where its word is another
 --     lowest_in, marked_on      the lowest bit that isn't set is that of the first word that isn't all ones;  the next word is all ones
+--     lowest_mark_in, unmarked_on      the same of the lowest bit that is set
 --     none_marked      at first no bit is set
 --     marked_insert, marked_again, marked_remove      the bits are those of the table after each change of it
+--     empty_unless_marked      where no bit is set no number has a descriptor
 --     lowest_free, full_exactly      the lowest number without a bit is the lowest free one;  there is none exactly where the table is full
 use Rattle.std.proofs.Common.{◌≡◌, ◌≢◌, ◌↔◌, IfSome, IfNone, IsNone, T, false, ℕ, ◌+◌, ◌-◌, ◌*◌, ◌/◌, ◌%◌, ◌^◌, ◌<◌, ◌≤◌, true, cond, inl, inr, List, length, get_or, set, replicate, Option, None, Some, IsSome, is_some, w64, refl, sym, ap, subst, ◌∙◌, arith}
 use Rattle.std.proofs.lemmas.Bool.Decides.{eqb_tells, leb_tells}
 use Rattle.std.proofs.lemmas.List.{get_or-set_same, get_or-set_other, get_or-replicate, get_or_past}
-use Rattle.std.proofs.lemmas.Nat.Bits.{bit_at-trailing_ones, bit_at-zero, bit_at_ones}
-use Rattle.std.specs.Int.{bit_at, trailing_ones}
+use Rattle.std.proofs.lemmas.Nat.Bits.{bit_at-trailing_ones, bit_at-trailing_zeros, bit_at-zero, bit_at_ones}
+use Rattle.std.specs.Int.{bit_at, trailing_ones, trailing_zeros}
 use Rattle.std.specs.Ordering.{nat_cmp}
 use Rattle.std.specs.FinMap.{empty, get, insert, remove, get-empty}
-use Rattle.maps.specs.Maps.{get-insert-same, get-insert-other, get-remove-same, get-remove-other}
+use Rattle.maps.specs.Maps.{get-insert-same, get-insert-other, get-remove-same, get-remove-other, same_numbers}
 use Rattle.abi_base.specs.declared.limits.TheConstants.{MOST_DESCRIPTORS}
 use Rattle.abi_types.specs.declared.descriptor.Descriptor.{Descriptor}
 use Rattle.fd_table.specs.Marks.{AreMarked, mark_of}
@@ -53,10 +55,10 @@ mark_at words place i less =
     let bit : (place * 64 + i) % 64 ≡ i = omega (arith, less) in
     ap (λ p. bit_at (get_or words p 0) ((place * 64 + i) % 64)) word ∙ ap (bit_at (get_or words place 0)) bit
 
--- the numbers of the words before, and of a part of this one
-marked_below : (words : List ℕ) (place most : ℕ) → most ≤ 64 → ((k : ℕ) → k < place * 64 → mark_of words k ≡ 1)
-    → ((i : ℕ) → i < most → bit_at (get_or words place 0) i ≡ 1) → (k : ℕ) → k < place * 64 + most → mark_of words k ≡ 1
-marked_below words place most few before bits k less =
+-- the numbers of the words before, and of a part of this one, where each bit is b
+marked_below : (b : ℕ) (words : List ℕ) (place most : ℕ) → most ≤ 64 → ((k : ℕ) → k < place * 64 → mark_of words k ≡ b)
+    → ((i : ℕ) → i < most → bit_at (get_or words place 0) i ≡ b) → (k : ℕ) → k < place * 64 + most → mark_of words k ≡ b
+marked_below b words place most few before bits k less =
     elim (leb_tells (place * 64) k) [
       | inr under ↦ before k under.1
       | inl from ↦ (
@@ -71,14 +73,30 @@ lowest_in words place word is some before =
     let lowest = bit_at-trailing_ones w64 word some in
     let less = lowest.0 in (
       mark_at words place (trailing_ones w64 word) less ∙ ap (λ x. bit_at x (trailing_ones w64 word)) (sym is) ∙ lowest.1,
-      marked_below words place (trailing_ones w64 word) (omega (arith, less)) before
+      marked_below 1 words place (trailing_ones w64 word) (omega (arith, less)) before
           (λ i under. ap (λ x. bit_at x i) (sym is) ∙ lowest.2 i under),
     )
 
 pub marked_on : (words : List ℕ) (place word : ℕ) → word ≡ get_or words place 0 → word ≡ 2 ^ 64 - 1 → ((k : ℕ) → k < place * 64 → mark_of words k ≡ 1)
     → (k : ℕ) → k < (place + 1) * 64 → mark_of words k ≡ 1
 marked_on words place word is ones before k less =
-    marked_below words place 64 (omega arith) before (λ i under. ap (λ x. bit_at x i) (sym is ∙ ones) ∙ bit_at_ones 64 i under) k (omega (arith, less))
+    marked_below 1 words place 64 (omega arith) before (λ i under. ap (λ x. bit_at x i) (sym is ∙ ones) ∙ bit_at_ones 64 i under) k (omega (arith, less))
+
+pub lowest_mark_in : (words : List ℕ) (place : ℕ) → 0 < get_or words place 0 → get_or words place 0 < 2 ^ 64 → ((k : ℕ) → k < place * 64 → mark_of words k ≡ 0)
+    → (mark_of words (place * 64 + trailing_zeros w64 (get_or words place 0)) ≡ 1)
+    × ((k : ℕ) → k < place * 64 + trailing_zeros w64 (get_or words place 0) → mark_of words k ≡ 0)
+lowest_mark_in words place some fits before =
+    let word = get_or words place 0 in
+    let lowest = bit_at-trailing_zeros w64 word some fits in
+    let less = lowest.0 in (
+      mark_at words place (trailing_zeros w64 word) less ∙ lowest.1,
+      marked_below 0 words place (trailing_zeros w64 word) (omega (arith, less)) before lowest.2,
+    )
+
+pub unmarked_on : (words : List ℕ) (place : ℕ) → get_or words place 0 ≡ 0 → ((k : ℕ) → k < place * 64 → mark_of words k ≡ 0)
+    → (k : ℕ) → k < (place + 1) * 64 → mark_of words k ≡ 0
+unmarked_on words place none before k less =
+    marked_below 0 words place 64 (omega arith) before (λ i under. ap (λ x. bit_at x i) none ∙ bit_at-zero i) k (omega (arith, less))
 
 -- ---- the bits of a table
 
@@ -143,3 +161,14 @@ module _ (words : List ℕ) (m : Table) (marked : AreMarked words m) where
       (λ _. full_if_taken MOST_DESCRIPTORS m table (taken_below MOST_DESCRIPTORS (omega arith) all), λ _. refl)
   full_exactly table (Some n) less own lower all =
       (λ none. absurd (not_true (sym none)), λ full. absurd (lowest_unless_full m n table (lowest_free (Some n) less own lower) full))
+
+-- where no number is marked none has a descriptor
+pub empty_unless_marked : (words : List ℕ) (m : Table) → AreMarked words m → IsTable m → ((k : ℕ) → k < MOST_DESCRIPTORS → mark_of words k ≡ 0) → m ≡ empty
+empty_unless_marked words m marked table none =
+    same_numbers m empty (λ k. elim (get m k) as (λ o. get m k ≡ o → o ≡ None) [
+      | None ↦ λ _. refl
+      | Some d ↦ λ e.
+          let less = table k (ap is_some e) in
+          let own = sym (ap (λ (o : Option Descriptor). bit_of o) e) ∙ sym (marked k less) ∙ none k less in
+          absurd (omega (arith, own))
+    ] refl ∙ sym (get-empty nat_cmp k))

@@ -1,3 +1,4 @@
 pub mod Sizes
 pub mod Table
 pub mod Marks
+pub mod Slots

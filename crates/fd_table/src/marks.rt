@@ -45,3 +45,18 @@ pub(crate) fn lowest_unmarked(words: &[u64; WORDS]) -> Option<u32>
     }
     None
 }
+
+// The lowest number whose bit is set. Looks at words, and not at each number.
+pub(crate) fn lowest_marked(words: &[u64; WORDS]) -> Option<u32>
+    ensures below { IfSome result (λ number. number < MOST_DESCRIPTORS) }
+    ensures marked { IfSome result (λ number. mark_of words.now number ≡ 1) }
+    ensures lower { IfSome result (λ number. (k : ℕ) → k < number → mark_of words.now k ≡ 0) }
+    ensures none { IfNone result ((k : ℕ) → k < MOST_DESCRIPTORS → mark_of words.now k ≡ 0) }
+{
+    for (place, word) in words.iter().enumerate() {
+        if *word != 0 {
+            return Some(place as u32 * WORD_BITS + word.trailing_zeros());
+        }
+    }
+    None
+}

@@ -6,10 +6,10 @@ ghost use Rattle.fd_table.specs.declared.faults.InsertFault.TheVariants as inser
 ghost use Rattle.fd_table.specs.declared.faults.PickFault.TheVariants as pick_faults;
 
 use crate::faults::{InsertFault, PickFault};
-use crate::marks::{WORDS, lowest_unmarked, mark, unmark};
+use crate::marks::{WORDS, lowest_marked, lowest_unmarked, mark, unmark};
+use crate::slots::Slots;
 use abi_base::MOST_DESCRIPTORS;
 use abi_types::{Descriptor, Rights, TryClone};
-use maps::NumMap;
 use std::alloc::{AllocError, Global};
 use std::marker::Model;
 
@@ -18,9 +18,9 @@ use std::marker::Model;
 /// In contracts it is a finite map from numbers to descriptors, `Table`.
 #[derive(Drop)]
 pub struct FdTable {
-    slots: NumMap<Descriptor>,
+    slots: Slots,
 
-    // Which numbers have a descriptor, one bit a number, so that the lowest without one is found by few words.
+    // Which numbers have a descriptor, one bit a number, so that the lowest with or without one is found by few words.
     taken: [u64; WORDS],
 
     alloc: Global,
@@ -45,7 +45,7 @@ impl FdTable {
         ensures { result ≡ map.empty }
     {
         FdTable {
-            slots: NumMap::new(alloc),
+            slots: Slots::new(alloc),
             taken: [0; WORDS],
             alloc,
         }
@@ -71,14 +71,14 @@ impl FdTable {
     pub fn get(&self, fd: u32) -> Option<&Descriptor>
         ensures { option_copied result ≡ map.get self.now fd }
     {
-        self.slots.get(u64::from(fd))
+        self.slots.get(fd)
     }
 
     /// Whether this number has a descriptor.
     pub fn contains(&self, fd: u32) -> bool
         ensures { result ≡ map.contains_key self.now fd }
     {
-        self.slots.contains(u64::from(fd))
+        self.get(fd).is_some()
     }
 
     /// The lowest free number. `None` exactly where each is taken.
@@ -121,7 +121,7 @@ impl FdTable {
         ensures err { OnErr result (self.new ≡ self.old) }
         ensures absent { OnErr result (map.get self.old fd ≡ None) }
     {
-        self.slots.insert(u64::from(fd), descriptor)?;
+        self.slots.insert(fd, descriptor)?;
         mark(&mut self.taken, fd);
         Ok(())
     }
@@ -132,7 +132,7 @@ impl FdTable {
         ensures new { self.new ≡ map.remove self.old fd }
     {
         unmark(&mut self.taken, fd);
-        self.slots.remove(u64::from(fd))
+        self.slots.remove(fd)
     }
 
     /// Puts a descriptor in the place of the one that has this number, and returns that one. Takes no memory.
@@ -146,7 +146,7 @@ impl FdTable {
         if !self.contains(fd) {
             return None;
         }
-        Some(self.slots.replace(u64::from(fd), descriptor))
+        Some(self.slots.replace(fd, descriptor))
     }
 
     /// Sets the rights of the descriptor that has this number.
@@ -169,7 +169,7 @@ impl FdTable {
             base,
             inheriting,
         };
-        self.slots.replace(u64::from(fd), descriptor);
+        self.slots.replace(fd, descriptor);
         true
     }
 
@@ -225,22 +225,21 @@ impl FdTable {
         ensures new { IfSome result (λ entry. self.new ≡ map.remove self.old entry.0) }
         ensures len { IfSome result (λ entry. map.len self.new + 1 ≡ map.len self.old) }
     {
-        let (number, descriptor) = self.slots.pop_first()?;
-        unmark(&mut self.taken, number as u32);
-        Some((number as u32, descriptor))
+        let Some(number) = lowest_marked(&self.taken) else {
+            return None;
+        };
+        let descriptor = self.slots.remove(number).unwrap();
+        unmark(&mut self.taken, number);
+        Some((number, descriptor))
     }
 }
 
 impl TryClone for FdTable {
     fn copy(&self) -> Result<Self, AllocError> {
-        let mut made = FdTable::new(self.alloc);
-        let mut next = 0;
-        while let Some(number) = self.slots.first_from(next) {
-            if let Some(descriptor) = self.slots.get(number) {
-                made.insert_at(number as u32, *descriptor)?;
-            }
-            next = number + 1;
-        }
-        Ok(made)
+        Ok(FdTable {
+            slots: self.slots.copy(self.alloc)?,
+            taken: self.taken,
+            alloc: self.alloc,
+        })
     }
 }

@@ -1,5 +1,4 @@
-use Rattle.std.proofs.Common.{◌≡◌, ℕ, subst, sym, ap, ◌∙◌}
-use Rattle.std.specs.FinMap.{insert}
+use Rattle.std.proofs.Common.{ℕ, subst, sym}
 use Rattle.abi_base.specs.declared.limits.TheConstants.{MOST_DESCRIPTORS}
 use Rattle.fd_table.specs.Marks.{IsKept}
 use Rattle.fd_table.specs.Sizes.{below-insert}
@@ -12,8 +11,7 @@ invariant_of-self-2 c =
     let m : Table = c.self.inside.slots in
     let fd : ℕ = c.args.fd in
     let d = c.args.descriptor in
-    let is : c.insert.new.self ≡ insert m fd d = c.in_ok-insert.ensures.ok ∙ ap (λ (k : ℕ). insert m k d) c.from.ensures in
-    subst (λ (x : Table). IsKept x c.mark.new.words) (sym is) (record {
+    subst (λ (x : Table). IsKept x c.mark.new.words) (sym c.in_ok-insert.ensures.ok) (record {
       table = below-insert MOST_DESCRIPTORS m fd d c.self.invariant.table c.requires;
       marked = marked_insert c.self.inside.taken c.mark.new.words m fd c.self.invariant.marked c.mark.ensures.others d c.mark.ensures.same;
     })

@@ -1,5 +1,4 @@
-use Rattle.std.proofs.Common.{◌≡◌, ℕ, subst, sym, ap, ◌∙◌}
-use Rattle.std.specs.FinMap.{remove}
+use Rattle.std.proofs.Common.{ℕ, subst, sym}
 use Rattle.abi_base.specs.declared.limits.TheConstants.{MOST_DESCRIPTORS}
 use Rattle.fd_table.specs.Marks.{IsKept}
 use Rattle.fd_table.specs.Sizes.{below-remove}
@@ -11,8 +10,7 @@ pub invariant_of-self : goal.invariant_of-self
 invariant_of-self c =
     let m : Table = c.self.inside.slots in
     let fd : ℕ = c.args.fd in
-    let is : c.remove.new.self ≡ remove m fd = c.remove.ensures.new ∙ ap (λ (k : ℕ). remove m k) c.from.ensures in
-    subst (λ (x : Table). IsKept x c.unmark.new.words) (sym is) (record {
+    subst (λ (x : Table). IsKept x c.unmark.new.words) (sym c.remove.ensures.new) (record {
       table = below-remove MOST_DESCRIPTORS m fd c.self.invariant.table;
       marked = marked_remove c.self.inside.taken c.unmark.new.words m fd c.self.invariant.marked c.unmark.ensures.others c.unmark.ensures.same;
     })
