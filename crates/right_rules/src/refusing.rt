@@ -1,9 +1,11 @@
 //! The refusals of a call for lack of a descriptor or of rights.
-ghost use Rattle.std.specs.Prelude.{◌≡◌, Some};
-ghost use Rattle.std.specs.FinMap as map;
+ghost use Rattle.std.specs.Prelude.{◌≡◌, [], ◌∷◌, None, Some, if◌then◌else◌};
+ghost use Rattle.abi_base.specs.declared.errno.Errno.TheVariants.{Badf};
 ghost use Rattle.kernel_model.specs.Calls.{refusal};
-ghost use Rattle.kernel_model.specs.Need.{some_absent, first_lack, lack_at, has_instead, lack_base};
 ghost use Rattle.kernel_model.specs.Families.WaitCalls.{fds_of, wait_rows};
+ghost use Rattle.kernel_model.specs.Need as need;
+ghost use Rattle.kernel_model.specs.Need.{some_absent, lack_at, has_instead, lack_base};
+ghost use Rattle.kernel_model.specs.Reply as reply;
 ghost use Rattle.right_rules.specs.Needs.{named_in, rows_in};
 
 use crate::needs::{Needs, needs_of};
@@ -22,35 +24,6 @@ fn is_one_absent(table: &FdTable, fds: &[u32]) -> bool
         }
     }
     false
-}
-
-// Whether one of the descriptors that are waited for is absent.
-fn is_waited_absent(table: &FdTable, subscriptions: &[Subscription]) -> bool
-    ensures { result ≡ some_absent table.now (fds_of (wait_rows subscriptions.now)) }
-{
-    for subscription in subscriptions {
-        if let Some(row) = wait_row(&subscription.what) {
-            if !table.contains(row.fd) {
-                return true;
-            }
-        }
-    }
-    false
-}
-
-// Whether some descriptor of those named is absent.
-fn some_absent(table: &FdTable, needs: Needs<'_>) -> bool
-    ensures { result ≡ some_absent table.now (named_in needs.entry) }
-{
-    match needs {
-        Needs::Nothing => false,
-        Needs::Named(fd) => !table.contains(fd),
-        Needs::NamedTwo(first, second) => !table.contains(first) || !table.contains(second),
-        Needs::One(row) => !table.contains(row.fd),
-        Needs::Two(first, second) => !table.contains(first.fd) || !table.contains(second.fd),
-        Needs::OneAndNamed(row, rest) => !table.contains(row.fd) || is_one_absent(table, rest),
-        Needs::Waited(subscriptions) => is_waited_absent(table, subscriptions),
-    }
 }
 
 // Whether the descriptor has rights that stand for the base rights that are needed.
@@ -87,43 +60,95 @@ fn lack_at(held: &Descriptor, row: &Needed) -> Option<Denial>
     })
 }
 
-// The denial of a row's descriptor, if it is there and lacks a right.
-fn row_lack(table: &FdTable, row: &Needed) -> Option<Denial>
-    ensures { result ≡ lack_at (map.get table.now row.now.fd) row.now }
+// The denial that came before, or else that of this descriptor, if it lacks a right.
+fn either_lack(before: Option<Denial>, held: &Descriptor, row: &Needed) -> Option<Denial>
+    ensures { result ≡ need.either_lack before (lack_at (Some held.now) row.now) }
+{
+    before.or(lack_at(held, row))
+}
+
+// The refusal by a denial, if there is one.
+fn denied_by(lack: Option<Denial>) -> Option<Reply>
+    ensures { result ≡ need.denied_by lack }
+{
+    let denial = lack?;
+    Some(Reply {
+        denial: Some(denial),
+        ..refused(Errno::Notcapable)
+    })
+}
+
+// The refusal where one of the descriptors is absent, and no right is needed of them.
+fn named_refusal(is_absent: bool) -> Option<Reply>
+    ensures { result ≡ (if is_absent then Some (reply.refused Badf) else None) }
+{
+    if is_absent {
+        Some(refused(Errno::Badf))
+    } else {
+        None
+    }
+}
+
+// The refusal for lack of a row's descriptor or of its rights.
+fn row_refusal(table: &FdTable, row: &Needed) -> Option<Reply>
+    ensures { result ≡ need.refusal table.now (row.now.fd ∷ []) (row.now ∷ []) }
 {
     match table.get(row.fd) {
-        Some(held) => lack_at(held, row),
-        None => None,
+        Some(held) => denied_by(lack_at(held, row)),
+        None => Some(refused(Errno::Badf)),
     }
 }
 
-// The denial of the first descriptor that is waited for and lacks a right.
-fn waited_lack(table: &FdTable, subscriptions: &[Subscription]) -> Option<Denial>
-    ensures { result ≡ first_lack table.now (wait_rows subscriptions.now) }
+// The refusal for lack of one of two rows' descriptors, and where both are there for lack of rights.
+fn two_refusal(table: &FdTable, first: &Needed, second: &Needed) -> Option<Reply>
+    ensures { result ≡ need.refusal table.now (first.now.fd ∷ second.now.fd ∷ []) (first.now ∷ second.now ∷ []) }
 {
+    let (Some(one), Some(other)) = (table.get(first.fd), table.get(second.fd)) else {
+        return Some(refused(Errno::Badf));
+    };
+    denied_by(either_lack(lack_at(one, first), other, second))
+}
+
+// The refusal for lack of a row's descriptor or of another one, and where all are there for lack of the row's rights.
+fn listed_refusal(table: &FdTable, row: &Needed, rest: &[u32]) -> Option<Reply>
+    ensures { result ≡ need.refusal table.now (row.now.fd ∷ rest.now) (row.now ∷ []) }
+{
+    if is_one_absent(table, rest) {
+        return Some(refused(Errno::Badf));
+    }
+    row_refusal(table, row)
+}
+
+// The refusal for lack of one of the descriptors that are waited for, and where all are there for the first lack of a right.
+fn waited_refusal(table: &FdTable, subscriptions: &[Subscription]) -> Option<Reply>
+    ensures { result ≡ need.refusal table.now (fds_of (wait_rows subscriptions.now)) (wait_rows subscriptions.now) }
+{
+    let mut lack = None;
     for subscription in subscriptions {
         if let Some(row) = wait_row(&subscription.what) {
-            let lack = row_lack(table, &row);
-            if lack.is_some() {
-                return lack;
-            }
+            let Some(held) = table.get(row.fd) else {
+                return Some(refused(Errno::Badf));
+            };
+            lack = either_lack(lack, held, &row);
         }
     }
-    None
+    denied_by(lack)
 }
 
-// The denial of the first descriptor that lacks a right.
-fn first_lack(table: &FdTable, needs: Needs<'_>) -> Option<Denial>
-    ensures { result ≡ first_lack table.now (rows_in needs.entry) }
+// The refusal for lack of what is needed.
+fn refusal_by(table: &FdTable, needs: Needs<'_>) -> Option<Reply>
+    ensures { result ≡ need.refusal table.now (named_in needs.entry) (rows_in needs.entry) }
 {
     match needs {
-        Needs::Nothing | Needs::Named(_) | Needs::NamedTwo(_, _) => None,
-        Needs::One(row) | Needs::OneAndNamed(row, _) => row_lack(table, &row),
-        Needs::Two(first, second) => match row_lack(table, &first) {
-            Some(denial) => Some(denial),
-            None => row_lack(table, &second),
-        },
-        Needs::Waited(subscriptions) => waited_lack(table, subscriptions),
+        Needs::Nothing => None,
+        Needs::Named(fd) => named_refusal(!table.contains(fd)),
+        Needs::NamedTwo(first, second) => {
+            named_refusal(!table.contains(first) || !table.contains(second))
+        }
+        Needs::One(row) => row_refusal(table, &row),
+        Needs::Two(first, second) => two_refusal(table, &first, &second),
+        Needs::OneAndNamed(row, rest) => listed_refusal(table, &row, rest),
+        Needs::Waited(subscriptions) => waited_refusal(table, subscriptions),
     }
 }
 
@@ -132,12 +157,5 @@ fn first_lack(table: &FdTable, needs: Needs<'_>) -> Option<Denial>
 pub fn refusal(table: &FdTable, call: &Call) -> Option<Reply>
     ensures { result ≡ refusal table.now call.now }
 {
-    let needs = needs_of(call);
-    if some_absent(table, needs) {
-        return Some(refused(Errno::Badf));
-    }
-    first_lack(table, needs).map(|denial| Reply {
-        denial: Some(denial),
-        ..refused(Errno::Notcapable)
-    })
+    refusal_by(table, needs_of(call))
 }
