@@ -8,9 +8,8 @@
 pub use checking::check_entries;
 pub use dispatch::{new_nodes, on_entries};
 pub use failure::Failure;
-pub use open_plan::plan_open;
 pub use places::NamePlace;
-pub use plans::{OpenPlan, apply_plan};
+pub use plans::{OpenPlan, apply_plan, plan_open};
 
 mod checking;
 mod dispatch;
@@ -18,7 +17,6 @@ mod entries;
 mod failure;
 mod making;
 mod moving;
-mod open_plan;
 mod places;
 mod plans;
 mod removing;
