@@ -19,7 +19,7 @@ use Rattle.kernel_model.specs.Threads.{ends_caller, first_result, makes_thread}
 use Rattle.kernel_model.proofs.Tests.{not_true}
 use Rattle.run_model.specs.World.{called_regs, left_regs, made_regs}
 use Rattle.guest_process.specs.Room.{put_back, without_thread, HasNumber, HasOther, HasRegisters, HasThreadFor}
-use Rattle.guest_process.specs.declared.room.NewThread.{NewThread}
+use Rattle.guest_process.specs.declared.guest.NewThread.{NewThread}
 
 pub other_than : (t next : ℕ) (o : Option NewThread) → HasNumber next o → t ≢ next → HasOther t o
 other_than t next None number other = tt

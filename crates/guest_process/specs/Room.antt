@@ -9,8 +9,8 @@ use Rattle.call_codec.specs.Put.{IsRoomFor, TakesRoom}
 use Rattle.call_codec.specs.Start.{thread_registers}
 use Rattle.guest_memory.specs.Room.{without_each}
 use Rattle.run_model.specs.World.{Guest}
-use Rattle.guest_process.specs.declared.room.GuestRoom.{GuestRoom}
-use Rattle.guest_process.specs.declared.room.NewThread.{NewThread}
+use Rattle.guest_process.specs.declared.guest.GuestRoom.{GuestRoom}
+use Rattle.guest_process.specs.declared.guest.NewThread.{NewThread}
 
 -- ---- the thread that a call may make
 

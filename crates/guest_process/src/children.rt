@@ -5,8 +5,7 @@ ghost use Rattle.call_codec.specs.Arguments.{Encodes};
 ghost use Rattle.guest_process.specs.Children.{told_in, IsFork};
 ghost use Rattle.run_model.specs.World.{answered_guest, child_guest, registers_of, share};
 
-use crate::guest::Guest;
-use crate::room::GuestRoom;
+use crate::guest::{Guest, GuestRoom};
 use abi_types::{Answer, Call, Payload, Tid};
 use call_codec::child_registers;
 use guest_memory::Room;

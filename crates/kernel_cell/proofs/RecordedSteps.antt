@@ -48,7 +48,7 @@ use Rattle.kernel_model.specs.Wakes.{is_ready, is_ready_as, IsStalled, IsWake as
 use Rattle.kernel_model.proofs.Tests.{not_true}
 use Rattle.kernel_model.proofs.ThreadLaws.{create_number}
 use Rattle.guest_process.specs.Room.{Begins, HasNumber, HasOther, HasThreadFor, IsCreate}
-use Rattle.guest_process.specs.declared.room.NewThread.{NewThread}
+use Rattle.guest_process.specs.declared.guest.NewThread.{NewThread}
 use Rattle.run_model.specs.Ends.{Stalled}
 use Rattle.run_model.specs.Legal.{FitsAct, Fits, IsRunnable}
 use Rattle.run_model.specs.Own.{is_idle, IsLiveIn}

@@ -6,7 +6,7 @@ use Rattle.abi_types.specs.declared.call.Call.{Call}
 use Rattle.maps.specs.Maps.{get-insert-same}
 use Rattle.guest_process.proofs.Rooms.{taken_back}
 use Rattle.guest_process.specs.Room.{put_back, Begins}
-use Rattle.guest_process.proofs.room.new_thread.Goals as goal
+use Rattle.guest_process.proofs.guest.new_thread.Goals as goal
 
 -- the registers with those of the thread
 inserted : (c : goal.In_ok-before-in-ThreadCreate) → c.insert.new.self ≡ insert c.args.regs.now c.args.next c.thread_registers.result

@@ -2,7 +2,7 @@ use Rattle.std.proofs.Common.{sym, ap, ◌∙◌}
 use Rattle.run_model.specs.World.{left_regs}
 use Rattle.guest_process.proofs.Rooms.{kept_made, kept_none}
 use Rattle.guest_process.specs.Room.{without_thread}
-use Rattle.guest_process.proofs.room.keep_threads.Goals as goal
+use Rattle.guest_process.proofs.guest.keep_threads.Goals as goal
 
 pub returns-then-makes_thread : goal.returns-then-makes_thread
 returns-then-makes_thread c =
