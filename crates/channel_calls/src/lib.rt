@@ -8,7 +8,7 @@ pub use calls::{on_end, on_socket};
 pub use kept::Channels;
 pub use leaving::leave;
 pub use pairs::{Pair, PairKind, put_pair};
-pub use waits::{end_waits, socket_waits, waited_on};
+pub use waits::{end_waits, socket_waits};
 
 mod calls;
 mod installing;

@@ -11,7 +11,7 @@ ghost use Rattle.kernel_model.specs.Outcome.{is_parked};
 use crate::kept::Channels;
 use crate::receiving::must_wait;
 use crate::sending::{Outgoing, Sending, is_nonblocking, ready};
-use abi_types::{Call, ObjId, OffsetCall, OpenKind, SocketCall};
+use abi_types::{ObjId, OffsetCall, OpenKind, SocketCall};
 use fd_table::FdTable;
 
 /// Whether fd_read or fd_write on an end would wait. Takes no memory.
@@ -72,18 +72,6 @@ pub fn socket_waits(
             send_waits(channels, &end, bytes, fds.len())
         }
         SocketCall::SockShutdown { .. } => false,
-    }
-}
-
-/// The channel on which a call on an end waits, where it waits.
-pub fn waited_on(kind: &OpenKind, call: &Call) -> Option<ObjId> {
-    let OpenKind::End { reads, writes, .. } = kind else {
-        return None;
-    };
-    match call {
-        Call::FdRead { .. } | Call::SockRecv { .. } => *reads,
-        Call::FdWrite { .. } | Call::SockSend { .. } => *writes,
-        _ => None,
     }
 }
 

@@ -58,7 +58,7 @@ use Rattle.run_model.proofs.Histories.{world_more, world_constants, legal_more, 
 use Rattle.run_model.proofs.ThreadRegisters.{parked_ends}
 use Rattle.run_model.proofs.Waited.{parked_is}
 use Rattle.kernel_cell.specs.Acting.{GoesOn, HasLeft, HasStarted, IsDead, KeepsBut, WaitsOn}
-use Rattle.kernel_cell.specs.Afterwards.{act_of, status_of}
+use Rattle.kernel_cell.specs.Results.{act_of, status_of}
 use Rattle.kernel_cell.specs.Asking.{AsksCall, AsksWake}
 use Rattle.shared_history.specs.Entries.{head_of, entry_of}
 use Rattle.shared_history.specs.Kept.{Takes}

@@ -4,7 +4,7 @@ use Rattle.std.specs.FinMap.{get, insert, remove}
 use Rattle.abi_types.specs.declared.call.Call.{Call}
 use Rattle.maps.specs.Maps.{get-insert-same, insert-remove, remove-inserted}
 use Rattle.kernel_model.proofs.Tests.{none_of}
-use Rattle.kernel_cell.specs.Afterwards.{Threads, with_made, without_place, HasPlace, IsPlaceFor}
+use Rattle.kernel_cell.specs.Results.{Threads, with_made, without_place, HasPlace, IsPlaceFor}
 use Rattle.kernel_cell.specs.declared.results.After.{After}
 use Rattle.kernel_cell.specs.declared.results.After.TheVariants as to
 use Rattle.kernel_cell.specs.declared.results.Doing.TheVariants as doing

@@ -27,7 +27,7 @@ use Rattle.shared_history.proofs.Histories.{own_more}
 use Rattle.shared_history.proofs.Owners.{contains_none, contains_one}
 use Rattle.kernel_cell.specs.Acting.{Entered, HasSeen, IsActedOn, IsCame, IsForkedOn, Looked, Seen, by_number}
 use Rattle.kernel_cell.specs.Asking.{Answers, Asks, AsksCall, AsksFor, AsksWake}
-use Rattle.kernel_cell.specs.Afterwards.{act_of}
+use Rattle.kernel_cell.specs.Results.{act_of}
 use Rattle.kernel_cell.specs.Handing.{held_after, held_without, with_pass, MayHandOut}
 use Rattle.kernel_cell.specs.declared.results.After.{After}
 use Rattle.kernel_cell.specs.declared.results.Asked.{Asked}

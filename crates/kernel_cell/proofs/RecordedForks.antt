@@ -38,7 +38,7 @@ use Rattle.shared_history.specs.declared.kept.Kept.{Kept}
 use Rattle.kernel_cell.specs.Acting.{GoesOn, HasForked, IsChild, IsForkedOn, KeepsBut}
 use Rattle.kernel_cell.specs.Asking.{AsksCall}
 use Rattle.kernel_cell.specs.Handing.{held_after}
-use Rattle.kernel_cell.specs.Afterwards.{Threads}
+use Rattle.kernel_cell.specs.Results.{Threads}
 use Rattle.kernel_cell.specs.Recorded.{IsRecorded}
 use Rattle.kernel_cell.specs.declared.results.Came.TheVariants as came
 use Rattle.kernel_cell.proofs.EntryEffects.{call_encoded, fork_lives, fork_replies}

@@ -66,7 +66,7 @@ use Rattle.shared_history.specs.Kept.{Takes}
 use Rattle.shared_history.specs.declared.entries.EntryHead.{EntryHead}
 use Rattle.shared_history.specs.declared.kept.Kept.{Kept}
 use Rattle.kernel_cell.specs.Acting.{Became, Entered, GoesOn, HasEnded, HasLeft, HasStarted, IsAlone, IsDead, IsActedOn, IsIdledOn, KeepsBut, MayCome, WaitsOn}
-use Rattle.kernel_cell.specs.Afterwards.{Threads, act_of, after_call, after_wake, end_of, if_live, status_of, unless_lost, with_made, without_place, HasPlace, IsPlaceFor}
+use Rattle.kernel_cell.specs.Results.{Threads, act_of, after_call, after_wake, end_of, if_live, status_of, unless_lost, with_made, without_place, HasPlace, IsPlaceFor}
 use Rattle.kernel_cell.specs.Asking.{Answers, AsksCall, AsksEnd, AsksWake, HasNoChild}
 use Rattle.kernel_cell.specs.Recorded.{IsRecorded}
 use Rattle.kernel_cell.specs.declared.results.After.{After}

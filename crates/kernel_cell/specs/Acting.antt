@@ -5,14 +5,13 @@
 --     IsActedOn, IsForkedOn, IsIdledOn      what comes of a call, a wake or an end, of a proc_fork, and of time, by the whole history
 --     Seen, IsActed, IsForked      the same by what a pass has seen of it
 --     Looked      a look
-use Rattle.std.specs.Prelude.{◌≡◌, ◌≢◌, ◌↔◌, ◌⊎◌, ℕ, Bool, true, false, List, [], ◌∷◌, ◌++◌, Option, None, Some, IsTrue}
+use Rattle.std.specs.Prelude.{◌≡◌, ◌≢◌, ◌↔◌, ℕ, Bool, true, false, List, [], ◌∷◌, ◌++◌, Option, None, Some, IsTrue}
 use Rattle.abi_types.specs.declared.call.Call.{Call}
 use Rattle.run_types.specs.declared.history.Act.{Act}
 use Rattle.run_types.specs.declared.history.Act.TheVariants as act
 use Rattle.run_types.specs.declared.history.Entry.{Entry}
 use Rattle.run_types.specs.declared.launch.Launch.{Launch}
-use Rattle.kernel_core.specs.Waiting.{waits_until}
-use Rattle.kernel_model.specs.State.{State, thread_of}
+use Rattle.kernel_model.specs.State.{thread_of}
 use Rattle.kernel_model.specs.Threads.{child_told, ends_others, next_number, IsMoved}
 use Rattle.kernel_model.specs.Wakes.{is_ready, MayJump}
 use Rattle.run_model.specs.Ends.{Stalled}
@@ -22,7 +21,7 @@ use Rattle.run_model.specs.World.{Guest, world, guest_of}
 use Rattle.shared_history.specs.Entries.{head_of, entry_of, idled}
 use Rattle.shared_history.specs.Passes.{Passing, IsSeen, Later}
 use Rattle.kernel_cell.specs.Asking.{Answers, IsWake, Waiting}
-use Rattle.kernel_cell.specs.Afterwards.{with_made}
+use Rattle.kernel_cell.specs.Results.{with_made}
 use Rattle.kernel_cell.specs.declared.results.After.{After}
 use Rattle.kernel_cell.specs.declared.results.After.TheVariants as to
 use Rattle.kernel_cell.specs.declared.results.Asked.{Asked}

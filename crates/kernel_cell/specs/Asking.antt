@@ -1,9 +1,9 @@
 -- What a thread asks the locked kernel for, and which acts answer that.
-use Rattle.std.specs.Prelude.{◌≡◌, ℕ, Bool, true, false, List, IsSome}
+use Rattle.std.specs.Prelude.{◌≡◌, ℕ, List, IsSome}
 use Rattle.std.specs.FinMap.{get}
 use Rattle.abi_types.specs.declared.reply.Answer.{Answer}
 use Rattle.abi_types.specs.declared.call.Call.{Call}
-use Rattle.abi_types.specs.declared.call.Call.TheVariants.{ProcFork, ThreadYield}
+use Rattle.abi_types.specs.declared.call.Call.TheVariants.{ProcFork}
 use Rattle.abi_types.specs.declared.thread.Thread.{Thread}
 use Rattle.abi_types.specs.declared.wake.WakeIn.{WakeIn}
 use Rattle.run_types.specs.declared.history.Act.{Act}
@@ -12,7 +12,7 @@ use Rattle.kernel_model.specs.Waits.{IsParked}
 use Rattle.kernel_model.specs.Wakes.{HasThread}
 use Rattle.run_model.specs.Legal.{AreWhole, Asks as AsksAct}
 use Rattle.run_model.specs.World.{World, Guest, guest_of, thread_at, turned_guest_by}
-use Rattle.kernel_cell.specs.Afterwards.{act_of}
+use Rattle.kernel_cell.specs.Results.{act_of}
 use Rattle.kernel_cell.specs.declared.results.Asked.{Asked}
 use Rattle.kernel_cell.specs.declared.results.Asked.TheVariants as asked
 use Rattle.kernel_cell.specs.declared.results.Body.{Body}

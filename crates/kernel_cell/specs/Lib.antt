@@ -1,4 +1,4 @@
-pub mod Afterwards
+pub mod Results
 pub mod Asking
 pub mod Acting
 pub mod Handing

@@ -7,7 +7,6 @@ pub use record::Record;
 pub use results::{After, Asked, Body, Came, Doing, EndBy, Idled};
 pub use shared_history::{Kept, Naming, Pass, Passes, Past};
 
-mod afterwards;
 mod cell;
 mod locked;
 mod record;

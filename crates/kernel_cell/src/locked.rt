@@ -13,11 +13,10 @@ ghost use Rattle.kernel_cell.specs.Asking.{Asks, AsksCall, AsksEnd, AsksWake, Ha
 ghost use Rattle.kernel_cell.specs.Handing.{held_after, held_without, with_pass, MayHandOut};
 ghost use Rattle.kernel_cell.specs.Recorded.{IsInOrder};
 
-use crate::afterwards::{
-    act_of, after_call, after_wake, child_guest, child_told, if_live, keep_place, leave_place,
-    make_place, number_for, status_of, unless_lost,
+use crate::results::{
+    After, Asked, Body, Came, EndBy, Idled, act_of, after_call, after_wake, child_guest,
+    child_told, if_live, keep_place, leave_place, make_place, number_for, status_of, unless_lost,
 };
-use crate::results::{After, Asked, Body, Came, EndBy, Idled};
 use abi_types::{Call, Constants, Pid, Tid, TidList};
 use guest_process::Guest;
 use kernel_core::{Kernel, Woken};
@@ -34,16 +33,6 @@ pub struct Locked<J: Naming> {
     pub keeper: Keeper<J>,
     pub kept: Kept,
     pub alloc: Global,
-}
-
-// Tells whether somebody is to be asked for: a thread is ready, or one that waited is no more.
-fn tell_news(kernel: &mut Kernel, constants: &Constants, told: &mut bool)
-    requires { HasDeadlines constants.now kernel.old }
-    ensures { kernel.new ≡ kernel.old }
-{
-    if kernel.take_news(constants) {
-        *told = true;
-    }
 }
 
 // The pass and the guest of the child, if there is one, whose pass the keeper hands out.
@@ -91,7 +80,7 @@ impl<J: Naming> Locked<J> {
             .take_in(passes, Pass::lent(pid, &mut pass.badge));
         let came = self.enter(passes, pid, tid, body, what);
         *pass = self.keeper.hand_out(passes, pid);
-        tell_news(&mut self.kernel, &self.constants, told);
+        *told |= self.kernel.has_news();
         came
     }
 
@@ -258,7 +247,7 @@ impl<J: Naming> Locked<J> {
         let forked = self.make_child(passes, pid, tid, body, call);
         let child = with_pass(&mut self.keeper, passes, forked);
         *pass = self.keeper.hand_out(passes, pid);
-        tell_news(&mut self.kernel, &self.constants, told);
+        *told |= self.kernel.has_news();
         child
     }
 

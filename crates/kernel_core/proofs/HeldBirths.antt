@@ -1,140 +1,99 @@
--- The entries of waiting threads as a process makes a child.
---     ahead_is_held, ahead_has      a thread that isn't there yet has an entry;  so it has
---     child_is_held      a process is there that wasn't, with a thread that runs and had its entry
---     ahead_of_child, born_is_held      a child's thread has an entry;  the child is made, and its parent gets a number
-use Rattle.std.proofs.Common.{◌≡◌, ◌≢◌, ◌⊎◌, ℕ, ◌+◌, ◌-◌, ◌^◌, ◌<◌, Bool, true, false, inl, inr, Option, None, Some, IsSome, is_some, refl, sym, ap, subst, ◌∙◌, arith}
+-- The entries of threads as a process makes a thread or a child.
+--     thread_is_held, unmade_is_held      a thread is made, which runs, and its entry was put in;  or it isn't made, and the entry goes again
+--     made_is_held      a process makes a thread, or none
+--     unborn_is_held, born_is_held      no child is made;  or one is, and its parent gets a number
+use Rattle.std.proofs.Common.{◌≡◌, ◌≢◌, ℕ, ◌+◌, ◌-◌, ◌^◌, ◌<◌, false, inl, inr, Option, None, Some, is_some, refl, sym, ap, subst, ◌∙◌, arith}
 use Rattle.std.proofs.lemmas.Bool.{eq-eqb}
 use Rattle.std.proofs.lemmas.Bool.Decides.{eqb_tells}
 use Rattle.std.specs.Prelude.{nat_eq}
 use Rattle.std.specs.Ordering.{nat_cmp}
-use Rattle.std.specs.Option.{option_map}
-use Rattle.std.specs.FinMap.{FinMap, empty, get, get-empty, insert}
+use Rattle.std.specs.FinMap.{FinMap, empty, get, get-empty, insert, remove}
 use Rattle.abi_types.specs.declared.descriptor.Descriptor.{Descriptor}
 use Rattle.abi_types.specs.declared.open_kind.OpenKind.{OpenKind}
 use Rattle.abi_types.specs.declared.open_kind.OpenKind.TheVariants.{Process}
 use Rattle.abi_types.specs.declared.status.Status.{Status}
 use Rattle.abi_types.specs.declared.status.Status.TheVariants.{Live}
 use Rattle.abi_types.specs.declared.thread.Thread.TheVariants.{Runnable}
-use Rattle.maps.specs.Maps.{get-insert-other, get-insert-same, same_numbers}
+use Rattle.maps.specs.Maps.{get-insert-other, get-insert-same, get-remove-other, get-remove-same, same_numbers}
 use Rattle.process_calls.specs.Forks.{ChildIsPut, MayPut}
 use Rattle.process_calls.specs.declared.forks.NewChild.{NewChild}
 use Rattle.kernel_model.specs.Families.ForkCalls.{child_descriptor, child_process}
 use Rattle.kernel_model.specs.Families.Numbers.{made_more}
 use Rattle.kernel_model.specs.OwnChanges.{with_next_child}
-use Rattle.kernel_model.specs.State.{ProcessState, State, Table, Threads, thread_in, thread_of}
-use Rattle.kernel_model.specs.Waits.{MayWait}
+use Rattle.kernel_model.specs.State.{ProcessState, State, Table, Threads, thread_of}
 use Rattle.kernel_model.proofs.Births.{may_is}
 use Rattle.kernel_model.proofs.ChildLaws.{child_is_unmade}
 use Rattle.kernel_parts.specs.Keys.{key}
-use Rattle.kernel_parts.specs.Touching.{HasEach, HasNoLast, begun_if, spread_if}
+use Rattle.kernel_parts.specs.Touching.{HasEach, IsMade, begun_if, made, not_made, spread_if}
 use Rattle.wait_set.specs.declared.waiting.Waiting.{Waiting}
 use Rattle.wait_set.specs.Waits.{WaitMap, fresh}
 use Rattle.readiness_laws.specs.Watched.{is_waiting, looked_at}
-use Rattle.readiness_laws.specs.WatchedChanges.{ThreadChange, idles, stays}
 use Rattle.readiness_laws.proofs.WatchedSets.{kept_self}
-use Rattle.readiness_laws.proofs.WatchedTables.{threads_are_watched}
-use Rattle.readiness_laws.proofs.WatchedThreads.{IsApart, begun_is_watched, of_two}
+use Rattle.readiness_laws.proofs.WatchedThreads.{made_is_watched, none_there}
 use Rattle.kernel_core.specs.Forks.{IsChildOf}
 use Rattle.kernel_core.specs.Kernel.{AreHeld, IsKept}
 use Rattle.kernel_core.specs.Readiness.{is_concerned_in}
 use Rattle.kernel_core.proofs.ForkCalls.{may_put}
-use Rattle.kernel_core.proofs.HeldNew.{counted_threads, inserted_is_held, named_row, new_statuses_are_held, opens_beside, same_threads_are_held, stays_beside}
+use Rattle.kernel_core.proofs.HeldEnds.{apart_stay, thread_now}
+use Rattle.kernel_core.proofs.HeldNew.{inserted_is_held, named_row, new_statuses_are_held, opens_beside, same_threads_are_held, stays_beside}
 use Rattle.kernel_core.proofs.HeldTables.{table_is_held}
+use Rattle.kernel_core.proofs.Leaving.{with_process}
+use Rattle.kernel_core.proofs.Parks.{no_thread_by, thread_by}
 
--- ---- an entry ahead of its thread
+-- ---- an entry and its thread
 
 not_begun : (o : Option Waiting) → begun_if false o ≡ o
 not_begun None = refl
 not_begun (Some w) = refl
 
-begun_there : (b : Bool) (v : Waiting) → begun_if b (Some v) ≡ Some v
-begun_there b v = refl
+-- a number that has no entry gets one
+begun : (k : ℕ) (V W : WaitMap) → HasEach (λ j. begun_if (nat_eq j k)) V W → get V k ≡ None → W ≡ insert V k fresh
+begun k V W each none =
+    same_numbers W (insert V k fresh) (λ j. elim (eqb_tells j k) [
+      | inl same ↦
+          ap (get W) same.1 ∙ each k ∙ (λ i. begun_if (eq-eqb k k refl i) (none i)) ∙ sym (ap (get (insert V k fresh)) same.1 ∙ get-insert-same V k fresh)
+      | inr other ↦
+          each j ∙ ap (λ b. begun_if b (get V j)) other.0 ∙ not_begun (get V j) ∙ sym (get-insert-other V k fresh j other.1)
+    ])
 
-module _ (k : ℕ) (V W : WaitMap) (each : HasEach (λ j. begun_if (nat_eq j k)) V W) where
-  beside : (j : ℕ) → j ≢ k → get W j ≡ get V j
-  beside j apart =
-      each j ∙ elim (eqb_tells j k) [
-        | inl same ↦ absurd (apart same.1)
-        | inr other ↦ ap (λ b. begun_if b (get V j)) other.0 ∙ not_begun (get V j)
-      ]
+taken_out : (k : ℕ) (V : WaitMap) → get V k ≡ None → remove (insert V k fresh) k ≡ V
+taken_out k V none =
+    same_numbers (remove (insert V k fresh) k) V (λ j. elim (eqb_tells j k) [
+      | inl same ↦ ap (get (remove (insert V k fresh) k)) same.1 ∙ get-remove-same (insert V k fresh) k ∙ sym (ap (get V) same.1 ∙ none)
+      | inr other ↦ get-remove-other (insert V k fresh) k j other.1 ∙ get-insert-other V k fresh j other.1
+    ])
 
-  here : get W k ≡ begun_if true (get V k)
-  here = each k ∙ ap (λ b. begun_if b (get V k)) (eq-eqb k k refl)
+module _ (S : State) (p t : ℕ) (V W : WaitMap) (small : t < 2 ^ 32) (none : thread_of S p t ≡ None) (each : HasEach (λ k. begun_if (nat_eq k (key p t))) V W)
+    (held : AreHeld (looked_at S) V) where
+  free : get V (key p t) ≡ None
+  free = none_there S V p t held.watched small none
 
-  begun : (W ≡ V) ⊎ (W ≡ insert V k fresh)
-  begun =
-      elim (get V k) as (λ o. get V k ≡ o → (W ≡ V) ⊎ (W ≡ insert V k fresh)) [
-        | None ↦ λ none. inr (same_numbers W (insert V k fresh) (λ j. elim (eqb_tells j k) [
-          | inl same ↦ ap (get W) same.1 ∙ here ∙ ap (begun_if true) none ∙ sym (ap (get (insert V k fresh)) same.1 ∙ get-insert-same V k fresh)
-          | inr other ↦ beside j other.1 ∙ sym (get-insert-other V k fresh j other.1)
-        ]))
-        | Some v ↦ λ there. inl (same_numbers W V (λ j. elim (eqb_tells j k) [
-          | inl same ↦ ap (get W) same.1 ∙ here ∙ ap (begun_if true) there ∙ sym there ∙ sym (ap (get V) same.1)
-          | inr other ↦ beside j other.1
-        ]))
-      ] refl
+  put_in : W ≡ insert V (key p t) fresh
+  put_in = begun (key p t) V W each free
 
-  some_begun : (o : Option Waiting) → IsSome (begun_if true o)
-  some_begun None = refl
-  some_begun (Some w) = refl
-
-  pub ahead_has : IsSome (get W k)
-  ahead_has = subst IsSome (sym here) (some_begun (get V k))
-
-last_ahead : (V : WaitMap) (p t : ℕ) → p < 0xffffffff → t < 2 ^ 32 → HasNoLast V → HasNoLast (insert V (key p t) fresh)
-last_ahead V p t few small last = get-insert-other V (key p t) fresh (2 ^ 64 - 1) (λ same. omega (arith, few, small, same)) ∙ last
-
-pub ahead_is_held : (S : State) (p t : ℕ) (V W : WaitMap) → p < 0xffffffff → t < 2 ^ 32 → is_waiting (thread_of S p t) ≡ false
-    → HasEach (λ j. begun_if (nat_eq j (key p t))) V W → AreHeld (looked_at S) V → AreHeld (looked_at S) W
-ahead_is_held S p t V W few small idle each held =
-    elim (begun (key p t) V W each) [
-      | inl same ↦ subst (AreHeld (looked_at S)) (sym same) held
-      | inr put ↦ subst (AreHeld (looked_at S)) (sym put) (record {
-        watched = begun_is_watched S V p t held.watched small idle;
-        last = last_ahead V p t few small held.last;
+  -- the thread is made, and runs
+  pub thread_is_held : (new : ProcessState) → key p t ≢ 2 ^ 64 - 1 → get new.threads t ≡ Some Runnable → ((u : ℕ) → u ≢ t → get new.threads u ≡ thread_of S p u)
+      → AreHeld (looked_at (with_process S p new)) W
+  thread_is_held new apart runs others =
+      subst (AreHeld (looked_at (with_process S p new))) (sym put_in) (record {
+        watched = made_is_watched S (with_process S p new).processes V p t held.watched small (apart_stay S p t new others) (thread_now S p new t ∙ runs);
+        last = get-insert-other V (key p t) fresh (2 ^ 64 - 1) (λ same. apart (sym same)) ∙ held.last;
       })
-    ]
 
--- ---- a process that wasn't there
+  -- it isn't made, and the entry goes again
+  pub unmade_is_held : AreHeld (looked_at S) (remove W (key p t))
+  unmade_is_held = subst (AreHeld (looked_at S)) (sym (ap (λ X. remove X (key p t)) put_in ∙ taken_out (key p t) V free)) held
 
--- the thread t alone, which runs
-abbrev alone : ℕ → Threads
-alone t = insert empty t Runnable
+-- ---- a process makes a thread
 
-module _ (S : State) (c t : ℕ) (child : ProcessState) (none : get S.processes c ≡ None) (one : child.threads ≡ alone t) where
-  abbrev T : State
-  T = record S { processes = insert S.processes c child }
-
-  none_before : (u : ℕ) → thread_of S c u ≡ None
-  none_before u = ap (λ o. thread_in (option_map (λ (own : ProcessState). own.threads) o) u) none
-
-  in_child : (u : ℕ) → thread_of T c u ≡ get (alone t) u
-  in_child u = ap (λ o. thread_in (option_map (λ (own : ProcessState). own.threads) o) u) (get-insert-same S.processes c child) ∙ ap (λ (m : Threads). get m u) one
-
-  runs : thread_of T c t ≡ Some Runnable
-  runs = in_child t ∙ get-insert-same empty t Runnable
-
-  elsewhere : (q u : ℕ) → q ≢ c → thread_of T q u ≡ thread_of S q u
-  elsewhere q u apart = ap (λ o. thread_in (option_map (λ (own : ProcessState). own.threads) o) u) (get-insert-other S.processes c child q apart)
-
-  same_apart : (q u : ℕ) → IsApart c t q u → thread_of T q u ≡ thread_of S q u
-  same_apart q u (inl apart) = elsewhere q u (λ same. apart (sym same))
-  same_apart q u (inr apart) =
-      elim (eqb_tells q c) [
-        | inl is ↦ subst (λ k. thread_of T k u ≡ thread_of S k u) (sym is.1)
-            (in_child u ∙ get-insert-other empty t Runnable u (λ same. apart (sym same)) ∙ get-empty nat_cmp u ∙ sym (none_before u))
-        | inr other ↦ elsewhere q u other.1
-      ]
-
-  pub child_is_held : (V : WaitMap) → t < 2 ^ 32 → IsSome (get V (key c t)) → AreHeld (looked_at S) V → AreHeld (looked_at T) V
-  child_is_held V small there held = record {
-    watched = threads_are_watched S (insert S.processes c child) V V held.watched (kept_self V)
-        (of_two c t (λ q u. MayWait (thread_of T q u)) (subst MayWait (sym runs) tt) (λ q u apart. subst MayWait (sym (same_apart q u apart)) (held.watched.may q u)))
-        (of_two c t (λ q u. IsSome (thread_of T q u) → u < 2 ^ 32) (λ _. small) (λ q u apart some. held.watched.small q u (subst IsSome (same_apart q u apart) some)))
-        (of_two c t (λ q u. u < 2 ^ 32 → ThreadChange (thread_of S q u) (thread_of T q u) (get V (key q u)))
-        (λ _. idles (ap is_waiting (none_before t)) (ap is_waiting runs) there) (λ q u apart _. stays (same_apart q u apart)));
-    last = held.last;
-  }
+module _ (S : State) (V W : WaitMap) (p : ℕ) (own new : ProcessState) (there : get S.processes p ≡ Some own) (held : AreHeld (looked_at S) V) where
+  pub made_is_held : IsMade p own.threads new.threads V W → AreHeld (looked_at (with_process S p new)) W
+  made_is_held (not_made same is) =
+      subst (AreHeld (looked_at (with_process S p new))) (sym is) (same_threads_are_held S p own new V there same held)
+  made_is_held (made t low none same each) =
+      thread_is_held S p t V W (omega (arith, low)) (thread_by S p t own there ∙ none) each held new (λ last. omega (arith, last, low))
+      (ap (λ (m : Threads). get m t) same ∙ get-insert-same own.threads t Runnable)
+      (λ u apart. ap (λ (m : Threads). get m u) same ∙ get-insert-other own.threads t Runnable u apart ∙ sym (thread_by S p u own there))
 
 -- ---- a child
 
@@ -150,23 +109,22 @@ module _ (S : State) (left : ℕ) (plan : NewChild) (is : IsChildOf S left plan)
 
   thread_small : (V : WaitMap) → AreHeld (looked_at S) V → plan.tid < 2 ^ 32
   thread_small V held =
-      held.watched.small plan.parent plan.tid
-      (ap is_some (ap (λ o. thread_in (option_map (λ (own : ProcessState). own.threads) o) plan.tid) may.has_own) ∙ may.there)
+      held.watched.small plan.parent plan.tid (ap is_some (thread_by S plan.parent plan.tid may.own may.has_own) ∙ may.there)
 
-  child_idle : (t : ℕ) → is_waiting (thread_of S plan.child t) ≡ false
-  child_idle t = ap is_waiting (ap (λ o. thread_in (option_map (λ (own : ProcessState). own.threads) o) t) may.no_own)
-
-  pub ahead_of_child : (V W : WaitMap) → HasEach (λ k. begun_if (nat_eq k (key plan.child plan.tid))) V W → AreHeld (looked_at S) V → AreHeld (looked_at S) W
-  ahead_of_child V W each held = ahead_is_held S plan.child plan.tid V W child_small (thread_small V held) (child_idle plan.tid) each held
+  -- no child is made, and its thread's entry goes again
+  pub unborn_is_held : (V W : WaitMap) → HasEach (λ k. begun_if (nat_eq k (key plan.child plan.tid))) V W → AreHeld (looked_at S) V
+      → AreHeld (looked_at S) (remove W (key plan.child plan.tid))
+  unborn_is_held V W each held =
+      unmade_is_held S plan.child plan.tid V W (thread_small V held) (no_thread_by S plan.child plan.tid may.no_own) each held
 
   module _ (tables : FinMap nat_cmp Table) (processes : FinMap nat_cmp ProcessState) (statuses : FinMap nat_cmp Status) (kinds : FinMap nat_cmp OpenKind)
       (put : ChildIsPut plan S.tables S.processes S.statuses S.opens tables processes statuses kinds) where
     abbrev born : State
     born = record S { tables = tables; processes = processes; statuses = statuses; opens = kinds }
 
-    pub born_is_held : (V W : WaitMap) → HasEach (λ k. spread_if (is_concerned_in plan.parent plan.fd (get processes plan.parent) k)) V W
-        → IsSome (get V (key plan.child plan.tid)) → AreHeld (looked_at S) V → AreHeld (looked_at born) W
-    born_is_held V W each there held =
+    pub born_is_held : (V X W : WaitMap) → HasEach (λ k. begun_if (nat_eq k (key plan.child plan.tid))) V X
+        → HasEach (λ k. spread_if (is_concerned_in plan.parent plan.fd (get processes plan.parent) k)) X W → AreHeld (looked_at S) V → AreHeld (looked_at born) W
+    born_is_held V X W begins each held =
         let p = plan.parent in
         let c = plan.child in
         let table : Table = may.table in
@@ -185,12 +143,16 @@ module _ (S : State) (left : ℕ) (plan : NewChild) (is : IsChildOf S left plan)
         let S5 : State = record S4 { processes = insert (insert S.processes p more) c child } in
         let h1 : AreHeld (looked_at S1) V = new_statuses_are_held S valid (insert S.statuses c Live) V (stays_beside S.statuses c Live may.no_status) held in
         let h2 : AreHeld (looked_at S2) V = opens_beside S1 (named_row S valid) (insert S.opens plan.open kind) V (stays_beside S.opens plan.open kind may.no_open) h1 in
-        let h3 : AreHeld (looked_at S3) V = table_is_held S2 c table V V h2 (kept_self V) (inr (inr child_idle)) in
-        let h4 : AreHeld (looked_at S4) V =
-        same_threads_are_held S3 (insert S.processes p more) V (counted_threads S3 p own more may.has_own refl) h3 in
-        let h5 : AreHeld (looked_at S5) V =
-        child_is_held S4 c plan.tid child (get-insert-other S.processes p more c may.other ∙ may.no_own) refl V (thread_small V held) there h4 in
+        let h3 : AreHeld (looked_at S3) V = table_is_held S2 c table V V h2 (kept_self V) (inr (inr (λ t. ap is_waiting (no_thread_by S c t may.no_own)))) in
+        let h4 : AreHeld (looked_at S4) V = same_threads_are_held S3 p own more V may.has_own refl h3 in
+        let few = child_small in
+        let small = thread_small V held in
+        let unmade : get (insert S.processes p more) c ≡ None = get-insert-other S.processes p more c may.other ∙ may.no_own in
+        let h5 : AreHeld (looked_at S5) X =
+        thread_is_held S4 c plan.tid V X small (no_thread_by S4 c plan.tid unmade) begins h4 child (λ same. omega (arith, few, small, same))
+        (get-insert-same empty plan.tid Runnable)
+        (λ u other. get-insert-other empty plan.tid Runnable u other ∙ get-empty nat_cmp u ∙ sym (no_thread_by S4 c u unmade)) in
         subst (λ (U : State). AreHeld (looked_at U) W)
         (λ i. record S { tables = sym (put.tables_are table own may.has_table may.has_own) i; processes = sym own_is i; statuses = sym put.statuses_are i; opens = sym put.kinds_are i })
-        (inserted_is_held S5 p plan.fd table d V W (get-insert-other S.tables c table p apart ∙ may.has_table) (kept.processes p (ap is_some may.has_table))
-        (subst (λ (m : FinMap nat_cmp ProcessState). HasEach (λ k. spread_if (is_concerned_in p plan.fd (get m p) k)) V W) own_is each) h5)
+        (inserted_is_held S5 p plan.fd table d X W (get-insert-other S.tables c table p apart ∙ may.has_table) (kept.processes p (ap is_some may.has_table))
+        (subst (λ (m : FinMap nat_cmp ProcessState). HasEach (λ k. spread_if (is_concerned_in p plan.fd (get m p) k)) X W) own_is each) h5)

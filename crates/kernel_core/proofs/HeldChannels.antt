@@ -1,11 +1,9 @@
--- The entries of waiting threads as calls on ends of channels are done, and as what nothing holds any more ends.
---     last_kept      the greatest number stays nobody's
---     held_released      something has ended, and whomever that concerns is left
+-- The entries of waiting threads as calls on ends of channels are done.
 --     KeepsOthers kind table o      an outcome of a call on an end sets no channels but those that the end reads and writes, nothing at all where the call
 --         isn't done, and the table alone where descriptors come
 --     end_keeps, socket_keeps      so it is of the calls on ends
 --     end_is_held      those that stand at the end's channels are left where the call is done
-use Rattle.std.proofs.Common.{◌≡◌, ℕ, ◌-◌, ◌^◌, ◌==◌, ◌||◌, not, bit_and, Bool, true, false, cond, List, [], ◌∷◌, ◌++◌, take, Option, None, Some, refl, sym, ap, subst, ◌∙◌}
+use Rattle.std.proofs.Common.{◌≡◌, ℕ, ◌==◌, ◌||◌, not, bit_and, Bool, true, false, cond, List, [], ◌∷◌, ◌++◌, take, Option, None, Some, refl, sym, ap, subst, ◌∙◌}
 use Rattle.std.proofs.lemmas.Bool.{eq-eqb, eqb-true}
 use Rattle.std.specs.Prelude.{⊤}
 use Rattle.std.specs.FinMap.{get, insert}
@@ -36,51 +34,18 @@ use Rattle.kernel_model.specs.Release.{is_reader, is_writer}
 use Rattle.kernel_model.specs.State.{State, Table, Update, set_chan, set_table}
 use Rattle.kernel_model.proofs.SocketCalls.{receive_holds}
 use Rattle.kernel_model.proofs.Tests.{none_is_no, not_true, or_true, same_some}
-use Rattle.kernel_parts.specs.Touched.{IsTouched}
-use Rattle.kernel_parts.specs.Touching.{HasNoLast, stands_at_end}
-use Rattle.kernel_parts.proofs.LeftEntries.{no_last_kept}
+use Rattle.kernel_parts.specs.Touching.{stands_at_end}
 use Rattle.maps.specs.Maps.{get-insert-other}
 use Rattle.wait_set.specs.declared.spot.Spot.TheVariants as spot
 use Rattle.wait_set.specs.declared.waiting.Waiting.{Waiting}
 use Rattle.wait_set.specs.Waits.{WaitMap, stands, touched, where_so}
 use Rattle.readiness_laws.specs.Watched.{looked_at}
-use Rattle.readiness_laws.specs.WatchedChanges.{AreKept, BothKept}
-use Rattle.readiness_laws.proofs.Watched.{touched_is_watched}
+use Rattle.readiness_laws.specs.WatchedChanges.{AreKept}
 use Rattle.readiness_laws.proofs.WatchedSets.{not_touched, touch_keeps}
 use Rattle.readiness_laws.proofs.WatchedTimes.{quiet_entries}
 use Rattle.kernel_core.specs.Kernel.{AreHeld}
 use Rattle.kernel_core.specs.Readiness.{has_come, has_received, left_where_done}
-use Rattle.kernel_core.proofs.Released.{parts}
-
--- ---- the greatest number
-
-none_still : (a b : Option Waiting) → BothKept a b → a ≡ None → b ≡ None
-none_still None None both none = refl
-none_still None (Some w) both none = absurd both
-none_still (Some v) b both none = absurd (none_is_no v (sym none))
-
-pub last_kept : (V W : WaitMap) → AreKept V W → HasNoLast V → HasNoLast W
-last_kept V W kept last = none_still (get V (2 ^ 64 - 1)) (get W (2 ^ 64 - 1)) (kept.each (2 ^ 64 - 1)) last
-
--- ---- what nothing holds any more ends
-
-pub held_released : (U T : State) (V W : WaitMap) → AreHeld (looked_at U) V → (HasNoLast V → IsTouched (parts U) (parts T) V W) → T.clock ≡ U.clock
-    → AreHeld (looked_at T) W
-held_released U T V W held ended clock =
-    let by = ended held.last in
-    record {
-      watched = touched_is_watched U T V W held.watched (record {
-        kept = by.kept;
-        gone = by.gone;
-        stay = λ p t w small there. let same = by.stay p t w small there in record { thread = same.thread; table = same.table };
-        channels = by.channels;
-        ends = by.ends;
-        rows = by.rows;
-        threads = by.threads;
-        clock = clock;
-      });
-      last = no_last_kept (parts U) (parts T) V W by held.last;
-    }
+use Rattle.kernel_core.proofs.HeldTimes.{no_last_kept}
 
 -- ---- what calls on an end set
 
@@ -307,7 +272,7 @@ module _ (S : State) (kind : OpenKind) (table : Table) (o : Outcome) (V : WaitMa
         watched = quiet_entries (looked_at S) S.clock S.statuses (channels_after o.updates S.chans) V W held.watched kept
             (λ k c p n w d there done at was of. others_stay kind o.updates S.chans c keeps.own (not_there c w at kind (not_touched (stands_at_end kind) V k w there done)))
             (λ k q p n w d there done at was of. refl) (λ k m w there done at. refl);
-        last = last_kept V W kept held.last;
+        last = no_last_kept V W kept held.last;
       }
 
   pub end_is_held : (W : WaitMap) → W ≡ left_where_done o.answer kind V → AreHeld (looked_at after_end) W

@@ -1,80 +1,178 @@
 -- The least deadline, by the entries and by what each thread waits until.
---     least_of, least_default      by what all threads wait until
+--     IsLeastUntil u P least      the least moment among those of the numbers that pass
+--     with_one      one more number passes
+--     until_past, until_all      as threads are gone over by their entries
+--     least_of      the least deadline by what all threads wait until
 --     first_moment      by the first moment at which somebody stands, where nobody stands everywhere
-use Rattle.std.proofs.Common.{◌≡◌, ℕ, Bool, false, Option, None, Some, refl, sym, ap, subst, ◌∙◌}
+use Rattle.std.proofs.Common.{◌≡◌, ◌⊎◌, ℕ, ◌/◌, ◌%◌, ◌^◌, ◌≤◌, true, false, inl, inr, Option, None, Some, IsSome, refl, sym, ap, subst, ◌∙◌, arith}
+use Rattle.std.proofs.lemmas.Bool.Decides.{leb_tells}
+use Rattle.std.proofs.Math.Nat.{min-eq_left, min_comm}
 use Rattle.std.specs.Prelude.{⊤}
-use Rattle.std.specs.FinMap.{get}
-use Rattle.abi_types.specs.declared.call.Call.{Call}
+use Rattle.std.specs.FinMap.{contains_key, get}
 use Rattle.abi_types.specs.declared.constants.Constants.{Constants}
-use Rattle.abi_types.specs.declared.thread.Stage.{Stage}
 use Rattle.abi_types.specs.declared.thread.Thread.{Thread}
 use Rattle.abi_types.specs.declared.thread.Thread.TheVariants.{Runnable, Waits}
-use Rattle.kernel_model.specs.Deadlines.{least_deadline, soon}
+use Rattle.kernel_model.specs.Deadlines.{least_deadline}
+use Rattle.kernel_model.specs.Families.Polls.{sooner}
 use Rattle.kernel_model.specs.State.{State, thread_of}
 use Rattle.kernel_model.specs.WaitLaws.{IsLeastDeadline, WaitsUntil}
-use Rattle.kernel_model.specs.Waits.{HasDeadlines}
-use Rattle.kernel_model.proofs.Deadlines.{soon_is, soon_is_soon, soon_kept}
+use Rattle.kernel_model.specs.Waits.{HasDeadline, HasDeadlines}
+use Rattle.kernel_model.proofs.Deadlines.{soon_is_soon}
 use Rattle.kernel_model.proofs.Readiness.{least_is_least}
-use Rattle.kernel_model.proofs.Tests.{none_is_no}
-use Rattle.kernel_parts.specs.Activity.{wait_by, IsActivity, IsNotEarlier, WaitsLater}
-use Rattle.kernel_parts.specs.declared.activity.Activity.{Activity}
-use Rattle.kernel_parts.specs.declared.activity.Activity.TheVariants.{NoThread, Busy, Waiting}
+use Rattle.kernel_model.proofs.Tests.{none_is_no, none_of, same_some}
+use Rattle.kernel_parts.specs.Keys.{key}
+use Rattle.kernel_parts.proofs.Walks.{IsPast}
 use Rattle.wait_set.specs.Next.{IsNext}
 use Rattle.wait_set.specs.Waits.{WaitMap, flag, is_awaited, is_everywhere}
+use Rattle.readiness_laws.specs.Watched.{HasEntry, IsWatched, looked_at}
+use Rattle.readiness_laws.proofs.Keys.{key_of, key_parts, key_small}
 use Rattle.readiness_laws.proofs.NextReady.{next_moment_is_least}
-use Rattle.readiness_laws.specs.Watched.{looked_at}
+use Rattle.readiness_laws.proofs.Watched.{until_counts}
 use Rattle.kernel_core.specs.Kernel.{AreHeld}
-use Rattle.kernel_core.specs.Waiting.{wait_in}
-use Rattle.kernel_core.proofs.Waiters.{least_is_one, same_until}
+use Rattle.kernel_core.specs.Readiness.{thread_by_key}
+use Rattle.kernel_core.specs.Waiting.{waits_until}
+use Rattle.kernel_core.proofs.Walking.{after_or_past}
 
--- until when the threads wait that do this together
-abbrev pub until_in : Activity → Option ℕ
-until_in NoThread = None
-until_in Busy = None
-until_in (Waiting until) = until
+abbrev pub IsLeastUntil : (ℕ → Option ℕ) → (ℕ → Type 0) → Option ℕ → Type 0
+IsLeastUntil u P None = (k : ℕ) → P k → u k ≡ None
+IsLeastUntil u P (Some least) = ((k : ℕ) × (u k ≡ Some least)) × ((k other : ℕ) → P k → u k ≡ Some other → least ≤ other)
 
-module _ (S : State) where
-  abbrev All : ℕ × ℕ → Type 0
-  All i = ⊤
+module _ (u : ℕ → Option ℕ) (P Q : ℕ → Type 0) (one : ℕ) (more : (k : ℕ) → Q k → P k ⊎ (k ≡ one) ⊎ (u k ≡ None)) where
+  -- what holds of none, of those that passed, and of the one, holds of each
+  each : (R : ℕ → Type 0) → ((k : ℕ) → P k → R k) → R one → ((k : ℕ) → u k ≡ None → R k) → (k : ℕ) → Q k → R k
+  each R passed here none k q =
+      elim (more k q) [
+        | inl p ↦ passed k p
+        | inr rest ↦ elim rest [
+          | inl same ↦ subst R (sym same) here
+          | inr absent ↦ none k absent
+        ]
+      ]
 
-  -- a thread that waits until a moment
-  waits_so : (p t until : ℕ) → WaitsUntil S p t until → wait_in S (p, t) ≡ Waiting (Some until)
-  waits_so p t until waits = ap wait_by waits.3 ∙ ap Waiting (soon_kept until waits.4)
+  no_other : (m : ℕ) (k : ℕ) → u k ≡ None → (other : ℕ) → u k ≡ Some other → m ≤ other
+  no_other m k none other is = absurd (none_is_no other (sym none ∙ is))
 
-  so_waits : (p t until : ℕ) (o : Option Thread) → thread_of S p t ≡ o → wait_by o ≡ Waiting (Some until) → WaitsUntil S p t until
-  so_waits p t until None there is = absurd (cc)
-  so_waits p t until (Some Runnable) there is = absurd (cc)
-  so_waits p t until (Some (Waits call since had stage)) there is =
-      let same : soon had ≡ Some until = same_until (soon had) (Some until) is in
-      (call, since, stage, there ∙ ap (λ o. Some (Waits call since o stage)) (soon_is had until same), soon_is_soon had until same)
+  lesser : (first second : ℕ) → first ≤ second → ((k other : ℕ) → P k → u k ≡ Some other → first ≤ other) → u one ≡ Some second
+      → (k other : ℕ) → Q k → u k ≡ Some other → first ≤ other
+  lesser first second before old is k other q =
+      each (λ j. (o : ℕ) → u j ≡ Some o → first ≤ o) (λ j p o. old j o p)
+      (λ o at. let same = same_some second o (sym is ∙ at) in omega (arith, before, same)) (no_other first) k q other
 
-  never_busy : (o : Option Thread) → wait_by o ≡ Busy → ⊥
-  never_busy None is = cc
-  never_busy (Some Runnable) is = cc
-  never_busy (Some (Waits call since had stage)) is = cc
+  new_one : (first second : ℕ) → second ≤ first → ((k other : ℕ) → P k → u k ≡ Some other → first ≤ other) → u one ≡ Some second
+      → (k other : ℕ) → Q k → u k ≡ Some other → second ≤ other
+  new_one first second before old is k other q =
+      each (λ j. (o : ℕ) → u j ≡ Some o → second ≤ o) (λ j p o at. let most = old j o p at in omega (arith, before, most))
+      (λ o at. let same = same_some second o (sym is ∙ at) in omega (arith, same)) (no_other second) k q other
 
-  no_thread : (until : Option ℕ) → NoThread ≡ Waiting until → ⊥
-  no_thread until is = cc
+  with_one_by : (least here : Option ℕ) → u one ≡ here → IsLeastUntil u P least → IsLeastUntil u Q (sooner least here)
+  with_one_by None None is old = each (λ k. u k ≡ None) old is (λ k none. none)
+  with_one_by None (Some m) is old = (
+    (one, is),
+    λ k other q. each (λ j. (o : ℕ) → u j ≡ Some o → m ≤ o) (λ j p. no_other m j (old j p))
+        (λ o at. let same = same_some m o (sym is ∙ at) in omega (arith, same)) (no_other m) k q other,
+  )
+  with_one_by (Some least) None is old = (
+    old.0,
+    λ k other q. each (λ j. (o : ℕ) → u j ≡ Some o → least ≤ o) (λ j p o. old.1 j o p) (no_other least one is) (no_other least) k q other,
+  )
+  with_one_by (Some least) (Some m) is old =
+      elim (leb_tells least m) [
+        | inl before ↦ subst (λ n. IsLeastUntil u Q (Some n)) (sym (min-eq_left before.1)) (old.0, lesser least m before.1 old.1 is)
+        | inr after ↦
+            let less : m ≤ least = omega (arith, after.1) in
+            subst (λ n. IsLeastUntil u Q (Some n)) (sym (min_comm least m ∙ min-eq_left less)) ((one, is), new_one least m less old.1 is)
+      ]
 
-  not_before : (until : Option ℕ) → IsActivity (wait_in S) All (Waiting until) → (p t other : ℕ) → WaitsUntil S p t other → IsNotEarlier until (Some other)
-  not_before until is p t other waits = subst (WaitsLater until) (waits_so p t other waits) (is.1 (p, t) tt)
+  with_one : (least : Option ℕ) → IsLeastUntil u P least → IsLeastUntil u Q (sooner least (u one))
+  with_one least old = with_one_by least (u one) refl old
 
-  pub least_of : (a : Activity) → IsActivity (wait_in S) All a → IsLeastDeadline S (until_in a)
-  least_of NoThread is = λ p t other waits. no_thread (Some other) (sym (is (p, t) tt) ∙ waits_so p t other waits)
-  least_of Busy is = absurd (never_busy (thread_of S is.0.0 is.0.1) is.2)
-  least_of (Waiting None) is = not_before None is
-  least_of (Waiting (Some until)) is = (
-    (is.0.0.0, is.0.0.1, so_waits is.0.0.0 is.0.0.1 until (thread_of S is.0.0.0 is.0.0.1) refl is.0.2),
-    not_before (Some until) is,
+-- ---- the threads of a state, one after another
+
+abbrev pub until_at : State → ℕ → Option ℕ
+until_at S k = waits_until (thread_by_key S.processes k)
+
+module _ (S : State) (W : WaitMap) (watched : IsWatched S W) where
+  -- where there is no entry there is no thread
+  not_held : (k : ℕ) (o : Option _) → get W k ≡ o → o ≡ None → until_at S k ≡ None
+  not_held k o is none =
+      ap waits_until (subst (HasEntry (looked_at S) (k / 2 ^ 32) (k % 2 ^ 32)) (ap (get W) (key_of k) ∙ is ∙ none) (watched.entries (k / 2 ^ 32) (k % 2 ^ 32) (key_small k)))
+
+  not_in : (k : ℕ) → contains_key W k ≡ false → until_at S k ≡ None
+  not_in k out = not_held k (get W k) refl (none_of (get W k) out)
+
+  -- with the next one
+  module _ (after : Option ℕ) (one : ℕ) (next : IsNext (λ t. contains_key W t) after (Some one)) where
+    past_one : (k : ℕ) → k ≤ one → IsPast after k ⊎ (k ≡ one) ⊎ (until_at S k ≡ None)
+    past_one k most =
+        elim (after_or_past after k) [
+          | inl behind ↦
+              elim (contains_key W k) as (λ b. contains_key W k ≡ b → IsPast after k ⊎ (k ≡ one) ⊎ (until_at S k ≡ None)) [
+                | true ↦ λ has. (let least = next.2 k behind has in inr (inl (omega (arith, least, most))))
+                | false ↦ λ out. inr (inr (not_in k out))
+              ] refl
+          | inr past ↦ inl past
+        ]
+
+    pub until_past : (least : Option ℕ) → IsLeastUntil (until_at S) (IsPast after) least
+        → IsLeastUntil (until_at S) (IsPast (Some one)) (sooner least (until_at S one))
+    until_past least old = with_one (until_at S) (IsPast after) (λ k. k ≤ one) one past_one least old
+
+  -- there is no next one
+  pub until_all : (after : Option ℕ) → IsNext (λ t. contains_key W t) after None → (least : Option ℕ) → IsLeastUntil (until_at S) (IsPast after) least
+      → IsLeastUntil (until_at S) (λ _. ⊤) least
+  until_all after none None old = λ k all.
+      elim (after_or_past after k) [
+        | inl behind ↦ not_in k (none k behind)
+        | inr past ↦ old k past
+      ]
+  until_all after none (Some least) old = (
+    old.0,
+    λ k other all is. elim (after_or_past after k) [
+      | inl behind ↦ absurd (none_is_no other (sym (not_in k (none k behind)) ∙ is))
+      | inr past ↦ old.1 k other past is
+    ],
   )
 
-  pub deadline_is : (constants : Constants) (a : Activity) → IsActivity (wait_in S) All a → until_in a ≡ least_deadline S
-  deadline_is constants a is = least_is_one constants S (until_in a) (least_deadline S) (least_of a is) (least_is_least S)
+-- ---- the least deadline
 
-pub no_until : (a : Activity) → ((until : Option ℕ) → a ≡ Waiting until → ⊥) → None ≡ until_in a
-no_until NoThread none = refl
-no_until Busy none = refl
-no_until (Waiting until) none = absurd (none until refl)
+-- whoever waits until a moment, which counts where it is its call's deadline
+counts_by : (constants : Constants) (S : State) (p t m : ℕ) (o : Option Thread) → HasDeadline constants o → thread_of S p t ≡ o → waits_until o ≡ Some m
+    → WaitsUntil S p t m
+counts_by constants S p t m None deadline is until = absurd (none_is_no m until)
+counts_by constants S p t m (Some Runnable) deadline is until = absurd (none_is_no m until)
+counts_by constants S p t m (Some (Waits call since other stage)) deadline is until = (
+  call,
+  since,
+  stage,
+  is ∙ ap (λ o. Some (Waits call since o stage)) until,
+  soon_is_soon other m (until_counts constants call since other stage deadline ∙ until),
+)
+
+-- there is one least deadline
+least_is_one : (S : State) (a b : Option ℕ) → IsLeastDeadline S a → IsLeastDeadline S b → a ≡ b
+least_is_one S None None h i = refl
+least_is_one S None (Some b) h i = absurd (h i.0.0 i.0.1 b i.0.2)
+least_is_one S (Some a) None h i = absurd (i h.0.0 h.0.1 a h.0.2)
+least_is_one S (Some a) (Some b) h i =
+    let up : a ≤ b = h.1 i.0.0 i.0.1 b i.0.2 in
+    let down : b ≤ a = i.1 h.0.0 h.0.1 a h.0.2 in
+    ap Some (omega (arith, up, down))
+
+module _ (constants : Constants) (S : State) (W : WaitMap) (watched : IsWatched S W) (deadlines : HasDeadlines constants S) where
+  until_key : (p t m : ℕ) → WaitsUntil S p t m → until_at S (key p t) ≡ Some m
+  until_key p t m waits =
+      let parts = key_parts p t (watched.small p t (subst IsSome (sym waits.3) refl)) in
+      (λ i. waits_until (thread_of S (parts.0 i) (parts.1 i))) ∙ ap waits_until waits.3
+
+  pub least_of : (result : Option ℕ) → IsLeastUntil (until_at S) (λ _. ⊤) result → result ≡ least_deadline S
+  least_of None is =
+      least_is_one S None (least_deadline S) (λ p t m waits. none_is_no m (sym (is (key p t) tt) ∙ until_key p t m waits)) (least_is_least S)
+  least_of (Some least) is =
+      let k = is.0.0 in
+      least_is_one S (Some least) (least_deadline S) (
+        (k / 2 ^ 32, k % 2 ^ 32, counts_by constants S (k / 2 ^ 32) (k % 2 ^ 32) least (thread_by_key S.processes k) (deadlines (k / 2 ^ 32) (k % 2 ^ 32)) refl is.0.1),
+        λ p t other waits. is.1 (key p t) other tt (until_key p t other waits),
+      ) (least_is_least S)
 
 pub first_moment : (constants : Constants) (S : State) (W : WaitMap) → AreHeld (looked_at S) W → HasDeadlines constants S → IsNext (λ t. flag is_everywhere (get W t)) None None
     → (result : Option ℕ) → IsNext (λ m. is_awaited W m) None result → result ≡ least_deadline S

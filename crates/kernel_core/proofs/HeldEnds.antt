@@ -1,68 +1,46 @@
--- The entries of waiting threads as threads and processes end, and as what nothing holds any more ends with them.
+-- The entries of threads as threads and processes end, and as another program begins.
 --     process_few      a process's number fits its type
---     released_is_held      something has ended, and whomever that concerns is left
+--     apart_stay      all threads but one do what they did
 --     thread_end_is_held      one thread has ended, and its entry is taken out
 --     process_end_is_held      a process has ended: its entries are taken out, and those that wait for its end are left
 --     begun_is_held      another program has begun in a process: all its threads but one have ended, and that one is spread
-use Rattle.std.proofs.Common.{◌≡◌, ◌≢◌, ◌⊎◌, ℕ, ◌^◌, ◌-◌, ◌<◌, ◌==◌, ◌&&◌, Bool, true, false, not, cond, Option, None, Some, IsSome, is_some, inl, inr, refl, sym, ap, subst, ◌∙◌, arith}
+use Rattle.std.proofs.Common.{◌≡◌, ◌≢◌, ℕ, ◌^◌, ◌-◌, ◌<◌, ◌==◌, ◌&&◌, Bool, true, false, not, cond, Option, None, Some, IsSome, inl, inr, refl, sym, ap, subst, ◌∙◌, arith}
 use Rattle.std.proofs.lemmas.Bool.{eq-eqb}
 use Rattle.std.proofs.lemmas.Bool.Decides.{eqb_tells}
 use Rattle.std.specs.Prelude.{nat_eq}
 use Rattle.std.specs.Ordering.{nat_cmp}
 use Rattle.std.specs.Option.{option_map}
-use Rattle.std.specs.FinMap.{FinMap, empty, get, insert, remove, retain_keys}
-use Rattle.abi_base.specs.declared.signal.Signal.TheVariants.{Kill}
+use Rattle.std.specs.FinMap.{FinMap, empty, get, insert, remove}
 use Rattle.abi_types.specs.declared.status.Status.{Status}
-use Rattle.abi_types.specs.declared.status.Status.TheVariants.{Killed}
 use Rattle.abi_types.specs.declared.thread.Thread.{Thread}
 use Rattle.kernel_model.specs.Families.ProcessCalls.{ended_process}
 use Rattle.kernel_model.specs.OwnChanges.{begun_anew, without_thread}
 use Rattle.kernel_model.specs.State.{ProcessState, State, Table, thread_in, thread_of}
 use Rattle.kernel_model.specs.Waits.{MayWait}
-use Rattle.kernel_model.proofs.Tests.{none_is_no, not_true, same_some}
+use Rattle.kernel_model.proofs.Tests.{none_is_no, not_true}
 use Rattle.kernel_parts.specs.Keys.{is_own, key}
 use Rattle.kernel_parts.specs.Touched.{IsTouched}
 use Rattle.kernel_parts.specs.Touching.{HasEach, HasNoLast, gone_if, left_if, spread_if}
-use Rattle.kernel_parts.proofs.LeftEntries.{no_last_kept, process_ends}
-use Rattle.kernel_parts.proofs.ThreadKeys.{own_key, own_other}
+use Rattle.kernel_parts.proofs.LeftEntries as left_entries
+use Rattle.kernel_parts.proofs.LeftEntries.{process_ends}
+use Rattle.kernel_parts.proofs.ThreadKeys.{own_other}
 use Rattle.maps.specs.Maps.{get-insert-other, get-insert-same, get-remove-other, get-remove-same, get-retain}
-use Rattle.wait_set.specs.declared.spot.Spot as wait
 use Rattle.wait_set.specs.declared.spot.Spot.TheVariants as spot
 use Rattle.wait_set.specs.declared.waiting.Waiting.{Waiting}
-use Rattle.wait_set.specs.Waits.{WaitMap, flag, spread_out, stands, touched}
+use Rattle.wait_set.specs.Waits.{WaitMap, flag, stands}
 use Rattle.readiness_laws.specs.Watched.{looked_at}
-use Rattle.readiness_laws.specs.WatchedChanges.{AreKept, AreLeftAt, AreSpread, RowsStay, ThreadChange, all_stay, ends, stays}
+use Rattle.readiness_laws.specs.WatchedChanges.{AreKept, ThreadChange, all_stay, ends, stays}
 use Rattle.readiness_laws.proofs.Watched.{changed_entries, touched_is_watched}
-use Rattle.readiness_laws.proofs.WatchedSets.{kept_entry, kept_none, kept_self, spread_keeps}
+use Rattle.readiness_laws.proofs.WatchedSets.{kept_entry, kept_none, spread_keeps}
 use Rattle.readiness_laws.proofs.WatchedThreads.{IsApart, gone_is_watched}
-use Rattle.readiness_laws.proofs.WatchedTimes.{status_is_watched}
 use Rattle.kernel_core.specs.Kernel.{AreHeld, IsKept}
+use Rattle.kernel_core.proofs.HeldTables.{has_own, own_spread}
+use Rattle.kernel_core.proofs.HeldTimes.{no_last_kept}
 use Rattle.kernel_core.proofs.Leaving.{with_process}
 use Rattle.kernel_core.proofs.Parks.{thread_by}
-use Rattle.kernel_core.proofs.Released.{parts}
 
 pub process_few : (S : State) (counts : FinMap nat_cmp ℕ) (p : ℕ) → IsKept S counts → IsSome (get S.processes p) → p < 2 ^ 32
 process_few S counts p kept some = kept.processes p (kept.valid.nearly.tables p ∙ sym (kept.valid.nearly.owns p) ∙ some)
-
--- ---- what nothing holds any more ends
-
-pub released_is_held : (U T given : State) (V W : WaitMap) → given ≡ parts U → AreHeld (looked_at U) V → (HasNoLast V → IsTouched given (parts T) V W)
-    → T.clock ≡ U.clock → AreHeld (looked_at T) W
-released_is_held U T given V W is held ended clock =
-    let by : IsTouched (parts U) (parts T) V W = subst (λ (X : State). IsTouched X (parts T) V W) is (ended held.last) in
-    record {
-      watched = touched_is_watched U T V W held.watched (record {
-        kept = by.kept;
-        gone = by.gone;
-        stay = λ p t w small there. let same = by.stay p t w small there in record { thread = same.thread; table = same.table };
-        channels = by.channels;
-        ends = by.ends;
-        rows = by.rows;
-        threads = by.threads;
-        clock = clock;
-      });
-      last = no_last_kept (parts U) (parts T) V W by held.last;
-    }
 
 -- ---- one thread
 
@@ -77,32 +55,30 @@ none_without V k q none =
 thread_beside : (S : State) (p : ℕ) (new : ProcessState) (q t : ℕ) → q ≢ p → thread_of (with_process S p new) q t ≡ thread_of S q t
 thread_beside S p new q t apart = ap (λ o. thread_in (option_map (λ (own : ProcessState). own.threads) o) t) (get-insert-other S.processes p new q apart)
 
-thread_now : (S : State) (p : ℕ) (new : ProcessState) (t : ℕ) → thread_of (with_process S p new) p t ≡ get new.threads t
+pub thread_now : (S : State) (p : ℕ) (new : ProcessState) (t : ℕ) → thread_of (with_process S p new) p t ≡ get new.threads t
 thread_now S p new t = thread_by (with_process S p new) p t new (get-insert-same S.processes p new)
 
-module _ (S : State) (p t : ℕ) (own : ProcessState) (V : WaitMap) (small : t < 2 ^ 32) (there : get S.processes p ≡ Some own) (held : AreHeld (looked_at S) V) where
-  abbrev left : State
-  left = with_process S p (without_thread t own)
-
-  others_stay : (q u : ℕ) → IsApart p t q u → thread_of left q u ≡ thread_of S q u
-  others_stay q u apart =
-      elim (eqb_tells q p) [
-        | inr other ↦ thread_beside S p (without_thread t own) q u other.1
-        | inl same ↦ subst (λ k. thread_of left k u ≡ thread_of S k u) (sym same.1)
-            (thread_now S p (without_thread t own) u ∙ get-remove-other own.threads t u (λ is. among apart same.1 is) ∙ sym (thread_by S p u own there))
-      ]
-    where
-      among : {q u : ℕ} → IsApart p t q u → q ≡ p → u ≡ t → ⊥
+-- all but one thread do what they did
+pub apart_stay : (S : State) (p t : ℕ) (new : ProcessState) → ((u : ℕ) → u ≢ t → get new.threads u ≡ thread_of S p u) → (q u : ℕ) → IsApart p t q u
+    → thread_of (with_process S p new) q u ≡ thread_of S q u
+apart_stay S p t new others q u apart =
+    elim (eqb_tells q p) [
+      | inr other ↦ thread_beside S p new q u other.1
+      | inl same ↦ subst (λ k. thread_of (with_process S p new) k u ≡ thread_of S k u) (sym same.1) (thread_now S p new u ∙ others u (λ is. among apart same.1 is))
+    ] where
+      among : IsApart p t q u → q ≡ p → u ≡ t → ⊥
       among (inl other) same is = other (sym same)
       among (inr other) same is = other (sym is)
 
-  pub thread_end_is_held : AreHeld (looked_at (with_process S p (without_thread t own))) (remove V (key p t))
-  thread_end_is_held = record {
-    watched = gone_is_watched S left.processes V (remove V (key p t)) held.watched p t small others_stay
-        (λ k apart. get-remove-other V (key p t) k apart)
-        (thread_now S p (without_thread t own) t ∙ get-remove-same own.threads t) (get-remove-same V (key p t));
-    last = none_without V (key p t) (2 ^ 64 - 1) held.last;
-  }
+pub thread_end_is_held : (S : State) (p t : ℕ) (own : ProcessState) (V : WaitMap) → t < 2 ^ 32 → get S.processes p ≡ Some own → AreHeld (looked_at S) V
+    → AreHeld (looked_at (with_process S p (without_thread t own))) (remove V (key p t))
+thread_end_is_held S p t own V small there held = record {
+  watched = gone_is_watched S (with_process S p (without_thread t own)).processes V (remove V (key p t)) held.watched p t small
+      (apart_stay S p t (without_thread t own) (λ u other. get-remove-other own.threads t u other ∙ sym (thread_by S p u own there)))
+      (λ k apart. get-remove-other V (key p t) k apart)
+      (thread_now S p (without_thread t own) t ∙ get-remove-same own.threads t) (get-remove-same V (key p t));
+  last = none_without V (key p t) (2 ^ 64 - 1) held.last;
+}
 
 -- ---- a process
 
@@ -125,7 +101,7 @@ module _ (S : State) (p : ℕ) (status : Status) (V W : WaitMap) (few : p < 2 ^ 
   })) W
   process_end_is_held = record {
     watched = touched_is_watched S after_end V W held.watched ending;
-    last = no_last_kept S after_end V W ending held.last;
+    last = left_entries.no_last_kept S after_end V W ending held.last;
   }
 
 -- ---- another program
@@ -141,10 +117,6 @@ taken false o is some = absurd (not_true (subst IsSome is some))
 gone_too : (b : Bool) (o : Option Waiting) → o ≡ None → gone_if b o ≡ None
 gone_too true o none = refl
 gone_too false o none = none
-
-spread_has : (o : Option Waiting) (w : Waiting) → option_map spread_out o ≡ Some w → (w.everywhere && w.left) ≡ true
-spread_has None w is = absurd (none_is_no w is)
-spread_has (Some v) w is = ap (λ (x : Waiting). x.everywhere && x.left) (sym (same_some (spread_out v) w is))
 
 both_so : (a b : Bool) → (a && b) ≡ true → (a ≡ true) × (b ≡ true)
 both_so true b h = (refl, h)
@@ -163,15 +135,7 @@ module _ (S : State) (p t words : ℕ) (own : ProcessState) (table : Table) (V X
   last_then = kept_one (2 ^ 64 - 1) ∙ gone_too _ (get V (2 ^ 64 - 1)) held.last
 
   last_now : HasNoLast W
-  last_now = spread (2 ^ 64 - 1) ∙ ap (spread_if (is_own p (2 ^ 64 - 1))) last_then ∙ none_spread (is_own p (2 ^ 64 - 1)) where
-    none_spread : (b : Bool) → spread_if b None ≡ None
-    none_spread true = refl
-    none_spread false = refl
-
-  own_spread : (u : ℕ) (w : Waiting) → u < 2 ^ 32 → get W (key p u) ≡ Some w → (w.everywhere && w.left) ≡ true
-  own_spread u w below at =
-      spread_has (get X (key p u)) w
-      (sym (ap (λ b. spread_if b (get X (key p u))) (own_key p u few below (λ same. none_is_no w (sym last_now ∙ ap (get W) (sym same) ∙ at)))) ∙ sym (spread (key p u)) ∙ at)
+  last_now = no_last_kept X W then_kept last_then
 
   here_now : (u : ℕ) → thread_of begun p u ≡ cond (u == t) (get own.threads u) None
   here_now u = thread_now S p (begun_anew words t own) u ∙ get-retain own.threads (λ k. k == t) u
@@ -200,7 +164,7 @@ module _ (S : State) (p t words : ℕ) (own : ProcessState) (table : Table) (V X
         | None ↦ λ _. refl
         | Some w ↦ λ is.
             let was = kept_entry X W then_kept (key p u) w is in
-            let own_too : is_own p (key p u) ≡ true = own_key p u few below (λ same. none_is_no w (sym last_now ∙ ap (get W) (sym same) ∙ is)) in
+            let own_too : is_own p (key p u) ≡ true = has_own p u w W few below last_now is in
             let differs : nat_eq (key p u) (key p t) ≡ false =
             elim (eqb_tells (key p u) (key p t)) [ inl same ↦ absurd (apart (let e = same.1 in omega (arith, e))) | inr away ↦ away.0 ] in
             absurd (none_is_no was.0 (sym (kept_one (key p u) ∙ (λ i. gone_if (own_too i && not (differs i)) (get V (key p u)))) ∙ was.1))
@@ -236,7 +200,7 @@ module _ (S : State) (p t words : ℕ) (own : ProcessState) (table : Table) (V X
       threads = change;
       rows = λ q u w call since until stage below at unless waits. elim (eqb_tells q p) [
         | inr other ↦ all_stay (get-insert-other S.tables p table q other.1)
-        | inl same ↦ absurd (not_true (sym unless ∙ own_spread u w below (subst (λ k. get W (key k u) ≡ Some w) same.1 at)))
+        | inl same ↦ absurd (not_true (sym unless ∙ (own_spread p X W few spread last_now).spread u w below (subst (λ k. get W (key k u) ≡ Some w) same.1 at)))
       ];
       opens = λ q n d was now. refl;
       flags = λ k c q n w d at done stood was now of. refl;

@@ -1,22 +1,22 @@
 -- Entries where something is done to one of them.
 --     at_other, at_that, at_none, last_stays      what becomes of each
---     put_at, absent_at, at_follows      the entry is put in; there is none; one after another
---     either_way, at_ok      a result is that of success or an error
---     flagged      an entry that passes a test is there
---     gathered_none, gathered_more      none notes anew where it stands, and one more does
-use Rattle.std.proofs.Common.{◌≡◌, ◌≢◌, ◌⊎◌, ℕ, ◌-◌, ◌^◌, Bool, true, false, cond, inl, inr, List, Option, None, Some, IsSome, Result, Ok, Err, OnOk, OnErr, is_err, refl, sym, ap, subst, ◌∙◌}
+--     put_at      the entry is put in
+--     there_is, flagged      an entry that is there;  one that passes a test is
+--     stood_after, last_stood      one stands at its places, to which something was done before;  the greatest number stays nobody's
+--     gathered_none, gathered_more, last_gathered      none notes anew where it stands, and one more does;  the greatest number stays nobody's
+use Rattle.std.proofs.Common.{◌≡◌, ◌≢◌, ℕ, ◌-◌, ◌^◌, Bool, true, false, cond, inl, inr, List, Option, None, Some, IsSome, refl, sym, ap, subst, ◌∙◌}
 use Rattle.std.proofs.lemmas.Bool.{eq-eqb}
 use Rattle.std.proofs.lemmas.Bool.Decides.{eqb_tells}
 use Rattle.std.specs.Prelude.{nat_eq}
 use Rattle.std.specs.Option.{option_map}
 use Rattle.std.specs.FinMap.{get, insert}
-use Rattle.maps.specs.Maps.{get-insert-other, get-insert-same}
-use Rattle.kernel_model.proofs.Tests.{not_true}
+use Rattle.maps.specs.Maps.{get-insert-other, get-insert-same, insert-again}
+use Rattle.kernel_model.proofs.Tests.{none_is_no, not_true, same_some}
 use Rattle.kernel_parts.specs.Touching.{HasEach, HasNoLast}
 use Rattle.wait_set.specs.declared.spot.Spot.{Spot}
 use Rattle.wait_set.specs.declared.waiting.Waiting.{Waiting}
-use Rattle.wait_set.specs.Waits.{WaitMap, flag}
-use Rattle.kernel_core.specs.Readiness.{at_key, stood, IsGathered}
+use Rattle.wait_set.specs.Waits.{WaitMap, flag, spread_at, stood, IsStood}
+use Rattle.kernel_core.specs.Readiness.{at_key, HasGathered, HasStood, IsGathered}
 
 module _ (k : ℕ) (f : Waiting → Waiting) where
   pub at_other : (j : ℕ) (entry : Option Waiting) → j ≢ k → at_key k f j entry ≡ entry
@@ -45,32 +45,6 @@ module _ (k : ℕ) (f : Waiting → Waiting) where
         | inr other ↦ get-insert-other V k (f w) j other.1 ∙ sym (at_other j (get V j) other.1)
       ]
 
-  pub absent_at : (V : WaitMap) → get V k ≡ None → HasEach (at_key k f) V V
-  absent_at V none j =
-      elim (eqb_tells j k) [
-        | inl same ↦
-            let here : get V j ≡ None = ap (get V) same.1 ∙ none in
-            here ∙ sym (at_none j) ∙ ap (at_key k f j) (sym here)
-        | inr other ↦ sym (at_other j (get V j) other.1)
-      ]
-
-at_both : (b : Bool) (f g : Waiting → Waiting) (o : Option Waiting)
-    → cond b (option_map g (cond b (option_map f o) o)) (cond b (option_map f o) o) ≡ cond b (option_map (λ w. g (f w)) o) o
-at_both true f g None = refl
-at_both true f g (Some w) = refl
-at_both false f g o = refl
-
-pub at_follows : (k : ℕ) (f g : Waiting → Waiting) (U V W : WaitMap) → HasEach (at_key k f) U V → HasEach (at_key k g) V W → HasEach (at_key k (λ w. g (f w))) U W
-at_follows k f g U V W one two j = two j ∙ ap (at_key k g j) (one j) ∙ at_both (nat_eq j k) f g (get U j)
-
-pub either_way : {A E P Q : Type 0} (r : Result A E) → OnOk r P → OnErr r Q → P ⊎ Q
-either_way (Ok x) p q = inl p
-either_way (Err e) p q = inr q
-
-pub at_ok : {A E P : Type 0} (r : Result A E) → is_err r ≡ false → OnOk r P → P
-at_ok (Ok x) fine p = p
-at_ok (Err e) fine p = absurd (not_true (sym fine))
-
 pub there_is : (o : Option Waiting) → IsSome o → (w : Waiting) × (o ≡ Some w)
 there_is None there = absurd (not_true there)
 there_is (Some w) there = (w, refl)
@@ -81,30 +55,68 @@ flagged p (Some w) is = refl
 
 -- ---- those that note anew where they stand
 
-stood_twice : (spots : List Spot) (o : Option Waiting) → option_map (stood spots) (option_map (stood spots) o) ≡ option_map (stood spots) o
-stood_twice spots None = refl
-stood_twice spots (Some w) = refl
+again_stood : (spots : List Spot) (v u : Waiting) → IsStood spots v u → stood spots u ≡ stood spots v
+again_stood spots v u (inl is) = ap (stood spots) is
+again_stood spots v u (inr spread) = ap (stood spots) spread.1
+
+again_spread : (spots some : List Spot) (v u : Waiting) → IsStood spots v u → spread_at some u ≡ spread_at some v
+again_spread spots some v u (inl is) = ap (spread_at some) is
+again_spread spots some v u (inr spread) = ap (spread_at some) spread.1
+
+stood_twice : (spots : List Spot) (v u w : Waiting) → IsStood spots v u → IsStood spots u w → IsStood spots v w
+stood_twice spots v u w one (inl is) = inl (is ∙ again_stood spots v u one)
+stood_twice spots v u w one (inr spread) = inr (spread.0, spread.1 ∙ again_spread spots spread.0 v u one)
+
+-- something was done to the entry before
+pub stood_after : (k : ℕ) (f : Waiting → Waiting) (spots : List Spot) (V U W : WaitMap) → ((v : Waiting) → get V k ≡ Some v → U ≡ insert V k (f v))
+    → HasStood k (λ v. v) spots U W → HasStood k f spots V W
+stood_after k f spots V U W put stands v there =
+    let is = put v there in
+    let after = stands (f v) (ap (λ (m : WaitMap). get m k) is ∙ get-insert-same V k (f v)) in
+    (after.0, after.1 ∙ ap (λ (m : WaitMap). insert m k after.0) is ∙ insert-again V k (f v) after.0, after.2)
+
+pub last_stood : (k : ℕ) (f : Waiting → Waiting) (spots : List Spot) (V W : WaitMap) → HasStood k f spots V W → IsSome (get V k) → HasNoLast V → HasNoLast W
+last_stood k f spots V W stands some last =
+    let there = there_is (get V k) some in
+    let after = stands there.0 there.1 in
+    ap (λ (m : WaitMap). get m (2 ^ 64 - 1)) after.1
+    ∙ get-insert-other V k after.0 (2 ^ 64 - 1) (λ same. none_is_no there.0 (sym last ∙ ap (get V) same ∙ there.1)) ∙ last
+
+once_more : (spots : List Spot) (o u : Option Waiting) (x w : Waiting) → HasGathered spots o u → u ≡ Some x → IsStood spots x w → HasGathered spots o (Some w)
+once_more spots None u x w none is stands = absurd (none_is_no x (sym none ∙ is))
+once_more spots (Some v) u x w had is stands =
+    let same : x ≡ had.0 = same_some x had.0 (sym is ∙ had.1) in (
+      w,
+      refl,
+      inr (elim had.2 [
+        | inl was ↦ subst (λ y. IsStood spots y w) (same ∙ was) stands
+        | inr anew ↦ stood_twice spots v x w (subst (IsStood spots v) (sym same) anew) stands
+      ]),
+    )
+
+gathered_self : (spots : List Spot) (o : Option Waiting) → HasGathered spots o o
+gathered_self spots None = refl
+gathered_self spots (Some v) = (v, refl, inl refl)
 
 module _ (places : ℕ → List Spot) where
   pub gathered_none : (V : WaitMap) → IsGathered places V V
-  gathered_none V k = inl refl
+  gathered_none V k = gathered_self (places k) (get V k)
 
-  once_more : (k : ℕ) (u v w : Option Waiting) → (u ≡ v) ⊎ (u ≡ option_map (stood (places k)) v) → w ≡ option_map (stood (places k)) u
-      → (w ≡ v) ⊎ (w ≡ option_map (stood (places k)) v)
-  once_more k u v w (inl same) is = inr (is ∙ ap (option_map (stood (places k))) same)
-  once_more k u v w (inr anew) is = inr (is ∙ ap (option_map (stood (places k))) anew ∙ stood_twice (places k) v)
-
-  anew_too : (key : ℕ) (V U W : WaitMap) → IsGathered places V U → HasEach (at_key key (stood (places key))) U W → IsGathered places V W
-  anew_too key V U W gathered each k =
+  pub gathered_more : (key : ℕ) (V U W : WaitMap) → IsGathered places V U → IsSome (get U key) → HasStood key (λ v. v) (places key) U W → IsGathered places V W
+  gathered_more key V U W gathered some stands k =
+      let there = there_is (get U key) some in
+      let after = stands there.0 there.1 in
       elim (eqb_tells k key) [
-        | inl same ↦
-            once_more k (get U k) (get V k) (get W k) (gathered k)
-            (subst (λ j. get W j ≡ option_map (stood (places j)) (get U j)) (sym same.1) (each key ∙ at_that key (stood (places key)) (get U key)))
-        | inr other ↦
-            let is = each k ∙ at_other key (stood (places key)) k (get U k) other.1 in
-            elim (gathered k) [ inl was ↦ inl (is ∙ was) | inr anew ↦ inr (is ∙ anew) ]
+        | inl same ↦ subst (λ j. HasGathered (places j) (get V j) (get W j)) (sym same.1)
+            (subst (HasGathered (places key) (get V key)) (sym (ap (λ (m : WaitMap). get m key) after.1 ∙ get-insert-same U key after.0))
+            (once_more (places key) (get V key) (get U key) there.0 after.0 (gathered key) there.1 after.2))
+        | inr other ↦ subst (HasGathered (places k) (get V k))
+            (sym (ap (λ (m : WaitMap). get m k) after.1 ∙ get-insert-other U key after.0 k other.1)) (gathered k)
       ]
 
-  pub gathered_more : (key : ℕ) (V U W : WaitMap) → IsGathered places V U → HasEach (at_key key (stood (places key))) U W ⊎ (W ≡ U) → IsGathered places V W
-  gathered_more key V U W gathered (inr same) = subst (IsGathered places V) (sym same) gathered
-  gathered_more key V U W gathered (inl each) = anew_too key V U W gathered each
+  none_gathered : (spots : List Spot) (o entry : Option Waiting) → o ≡ None → HasGathered spots o entry → entry ≡ None
+  none_gathered spots None entry none is = is
+  none_gathered spots (Some v) entry none is = absurd (none_is_no v (sym none))
+
+  pub last_gathered : (U W : WaitMap) → IsGathered places U W → HasNoLast U → HasNoLast W
+  last_gathered U W gathered last = none_gathered (places (2 ^ 64 - 1)) (get U (2 ^ 64 - 1)) (get W (2 ^ 64 - 1)) last (gathered (2 ^ 64 - 1))

@@ -1,7 +1,7 @@
 -- The entries of waiting threads as something is made: nobody stands at a channel or an open that wasn't there, since what is valid names none.
 --     StaysIn old new, stays_beside      what a map has stays in it
 --     opens_beside, new_channels_are_held, new_statuses_are_held      opens, channels and processes are made
---     same_threads_are_held, counted_threads      what a process has of its own has changed, but not its threads
+--     same_threads_are_held      what a process has of its own has changed, but not its threads
 --     pair_is_held      two ends are made, at two numbers of a process
 --     opening_is_held      an open is made, at a number of a process
 use Rattle.std.proofs.Common.{◌≡◌, ◌≢◌, ℕ, ◌+◌, ◌^◌, ◌<◌, ◌||◌, true, inl, inr, Option, None, Some, IsSome, is_some, refl, sym, ap, subst, ◌∙◌, arith}
@@ -41,6 +41,7 @@ use Rattle.kernel_core.specs.Readiness.{is_concerned_in}
 use Rattle.kernel_core.proofs.Channels.{reader_by, writer_by}
 use Rattle.kernel_core.proofs.EndCalls.{with_pair}
 use Rattle.kernel_core.proofs.HeldTables.{number_is_held}
+use Rattle.kernel_core.proofs.Leaving.{with_process}
 
 -- what a map has stays in it
 abbrev pub StaysIn : {X : Type 0} → FinMap nat_cmp X → FinMap nat_cmp X → Type 0
@@ -106,19 +107,11 @@ module _ (S : State) (valid : IsNearlyValid S) where
     last = held.last;
   }
 
--- ---- processes whose threads do what they did
+-- ---- a process whose threads do what they did
 
-pub same_threads_are_held : (S : State) (processes : FinMap nat_cmp ProcessState) (V : WaitMap)
-    → ((p t : ℕ) → thread_of (record S { processes = processes }) p t ≡ thread_of S p t) → AreHeld (looked_at S) V → AreHeld (looked_at (record S { processes = processes })) V
-same_threads_are_held S processes V same held = record {
-  watched = threads_are_watched S processes V V held.watched (kept_self V) (λ p t. subst MayWait (sym (same p t)) (held.watched.may p t))
-      (λ p t some. held.watched.small p t (subst IsSome (same p t) some)) (λ p t small. stays (same p t));
-  last = held.last;
-}
-
-pub counted_threads : (S : State) (p : ℕ) (own new : ProcessState) → get S.processes p ≡ Some own → new.threads ≡ own.threads
-    → (q t : ℕ) → thread_of (record S { processes = insert S.processes p new }) q t ≡ thread_of S q t
-counted_threads S p own new there same q t =
+same_threads : (S : State) (p : ℕ) (own new : ProcessState) → get S.processes p ≡ Some own → new.threads ≡ own.threads
+    → (q t : ℕ) → thread_of (with_process S p new) q t ≡ thread_of S q t
+same_threads S p own new there same q t =
     ap (λ o. thread_in o t) (elim (eqb_tells q p) [
       | inl is ↦
           ap (λ k. option_map (λ (o : ProcessState). o.threads) (get (insert S.processes p new) k)) is.1
@@ -126,6 +119,16 @@ counted_threads S p own new there same q t =
           ∙ sym (ap (option_map (λ (o : ProcessState). o.threads)) there) ∙ sym (ap (λ k. option_map (λ (o : ProcessState). o.threads) (get S.processes k)) is.1)
       | inr other ↦ ap (option_map (λ (o : ProcessState). o.threads)) (get-insert-other S.processes p new q other.1)
     ])
+
+pub same_threads_are_held : (S : State) (p : ℕ) (own new : ProcessState) (V : WaitMap) → get S.processes p ≡ Some own → new.threads ≡ own.threads
+    → AreHeld (looked_at S) V → AreHeld (looked_at (with_process S p new)) V
+same_threads_are_held S p own new V there same held =
+    let stay = same_threads S p own new there same in
+    record {
+      watched = threads_are_watched S (insert S.processes p new) V V held.watched (kept_self V) (λ q t. subst MayWait (sym (stay q t)) (held.watched.may q t))
+          (λ q t some. held.watched.small q t (subst IsSome (stay q t) some)) (λ q t small. stays (stay q t));
+      last = held.last;
+    }
 
 -- ---- a number of a process gets a descriptor
 
@@ -165,8 +168,7 @@ made_is_held S p own more opens chans V valid there same opens_stay chans_stay h
     let channels : AreHeld (looked_at (record S { chans = chans })) V = new_channels_are_held S valid chans V chans_stay held in
     let opened : AreHeld (looked_at (record S { opens = opens; chans = chans })) V =
     opens_beside (record S { chans = chans }) (named_row S valid) opens V opens_stay channels in
-    same_threads_are_held (record S { opens = opens; chans = chans }) (insert S.processes p more) V
-    (counted_threads (record S { opens = opens; chans = chans }) p own more there same) opened
+    same_threads_are_held (record S { opens = opens; chans = chans }) p own more V there same opened
 
 pub pair_is_held : (S : State) (p : ℕ) (own : ProcessState) (table : Table) (pair : Pair) (counts : FinMap nat_cmp ℕ) (V X W : WaitMap) → IsNearlyValid S → p < 2 ^ 32
     → get S.processes p ≡ Some own → get S.tables p ≡ Some table → AreNew pair S.chans S.opens counts
@@ -200,5 +202,5 @@ opening_is_held S p fd o own more table d kind V W valid few there same had new 
     let opens = insert S.opens o kind in
     let opened : AreHeld (looked_at (record S { opens = opens })) V = opens_beside S (named_row S valid) opens V (stays_beside S.opens o kind new) held in
     let counted : AreHeld (looked_at (record S { opens = opens; processes = insert S.processes p more })) V =
-    same_threads_are_held (record S { opens = opens }) (insert S.processes p more) V (counted_threads (record S { opens = opens }) p own more there same) opened in
+    same_threads_are_held (record S { opens = opens }) p own more V there same opened in
     inserted_is_held (record S { opens = opens; processes = insert S.processes p more }) p fd table d V W had few each counted

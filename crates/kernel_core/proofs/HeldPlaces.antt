@@ -1,9 +1,8 @@
--- Where a thread stands, as the code notes it, is what is noted of its spots.
---     noted_joined      what is noted of two lists of spots
---     places_noted      of a thread that does something
---     places_are_noted, places_at_key      of a thread of a state
-use Rattle.std.proofs.Common.{◌≡◌, ℕ, ◌/◌, ◌%◌, ◌^◌, ◌<◌, Bool, true, false, List, [], ◌∷◌, ◌++◌, Option, None, Some, refl, sym, ap, ◌∙◌}
-use Rattle.std.specs.Prelude.{if◌then◌else◌}
+-- Where a thread stands, as the code notes it, covers its spots: they are what is noted of these, with the moment last.
+--     places_cover      of a thread of a state
+use Rattle.std.proofs.Common.{◌≡◌, ℕ, ◌^◌, ◌<◌, Bool, true, false, List, [], ◌∷◌, ◌++◌, Option, None, Some, refl, sym, ap, ◌∙◌}
+use Rattle.std.proofs.lemmas.List.Folds.{list_any-append}
+use Rattle.std.specs.Prelude.{◌||◌, if◌then◌else◌}
 use Rattle.std.specs.Ordering.{nat_cmp}
 use Rattle.std.specs.FinMap.{FinMap, get}
 use Rattle.abi_structures.specs.declared.events.Subscription.{Subscription}
@@ -20,13 +19,14 @@ use Rattle.kernel_model.specs.Calls.{meaning_of}
 use Rattle.kernel_model.specs.State.{State, Table, thread_of}
 use Rattle.kernel_parts.specs.Entries.{kind_with, open_in}
 use Rattle.kernel_parts.specs.Keys.{key}
-use Rattle.kernel_parts.specs.Noted.{awaited_place, call_places, channel_place, end_place, moment_place, only, polled_places, read_place, wait_places, write_place}
+use Rattle.kernel_parts.specs.Noted.{awaited_place, call_places, channel_place, end_place, moment_place, only, polled_places, read_place, write_place}
 use Rattle.wait_set.specs.declared.spot.Spot as wait
-use Rattle.wait_set.specs.declared.spot.Spot.TheVariants.{Channel, Ended, Moment}
+use Rattle.wait_set.specs.declared.spot.Spot.TheVariants.{Moment}
 use Rattle.readiness_laws.specs.Spots.{Look, Purpose, Spot, behind_spots, call_spots, channel_spot, descriptor_spots, look_spots, looks_of, moment_spot, on_channel, on_end, on_flags, on_moment, on_open, on_table, on_thread, polled, polled_by, spots, table_spots, to_await, to_read, to_write, waiting_spots, with_flags}
-use Rattle.readiness_laws.specs.Watched.{noted, noted_before}
+use Rattle.wait_set.specs.Spots.{listed, same_spot}
+use Rattle.readiness_laws.specs.Watched.{Covers, noted, noted_before}
 use Rattle.readiness_laws.proofs.Keys.{key_parts}
-use Rattle.kernel_core.specs.Readiness.{places_by_key, places_of, thread_by_key}
+use Rattle.kernel_core.specs.Readiness.{places_by_key, places_of}
 
 before_joined : (spot : Spot) (xs ys : List wait.Spot) → noted_before spot (xs ++ ys) ≡ noted_before spot xs ++ ys
 before_joined (on_channel c) xs ys = refl
@@ -37,7 +37,7 @@ before_joined (on_open o) xs ys = refl
 before_joined (on_flags o) xs ys = refl
 before_joined (on_thread p t) xs ys = refl
 
-pub noted_joined : (xs ys : List Spot) → noted (xs ++ ys) ≡ noted xs ++ noted ys
+noted_joined : (xs ys : List Spot) → noted (xs ++ ys) ≡ noted xs ++ noted ys
 noted_joined [] ys = refl
 noted_joined (spot ∷ xs) ys = ap (noted_before spot) (noted_joined xs ys) ∙ before_joined spot (noted xs) (noted ys)
 
@@ -138,6 +138,12 @@ module _ (opens : FinMap nat_cmp OpenKind) where
 
 -- ---- a thread
 
+or_comm : (a b : Bool) → (a || b) ≡ (b || a)
+or_comm true true = refl
+or_comm true false = refl
+or_comm false true = refl
+or_comm false false = refl
+
 moment_noted : (until : Option ℕ) → noted (moment_spot until) ≡ only (moment_place until)
 moment_noted None = refl
 moment_noted (Some until) = refl
@@ -147,19 +153,27 @@ call_noted : (by_stage : Bool) (S : State) (p : ℕ) (called : Call)
 call_noted true S p called = refl
 call_noted false S p called = table_noted S.opens (get S.tables p) (looks_of called) ∙ call_looked S.opens (get S.tables p) called
 
-pub places_noted : (S : State) (p : ℕ) (o : Option Thread) → places_of S.opens (get S.tables p) o ≡ noted (waiting_spots S p o)
-places_noted S p None = refl
-places_noted S p (Some Runnable) = refl
-places_noted S p (Some (Waits called since until stage)) =
-    sym (noted_joined (moment_spot until) (call_spots (meaning_of called).by_stage S p called)
+-- a spot is in both or in neither, whichever list comes first
+listed_swapped : (x : wait.Spot) (xs ys : List wait.Spot) → listed x (xs ++ ys) ≡ listed x (ys ++ xs)
+listed_swapped x xs ys = list_any-append (same_spot x) xs ys ∙ or_comm (listed x xs) (listed x ys) ∙ sym (list_any-append (same_spot x) ys xs)
+
+places_listed : (S : State) (p : ℕ) (o : Option Thread) (x : wait.Spot) → listed x (places_of S.opens (get S.tables p) o) ≡ listed x (noted (waiting_spots S p o))
+places_listed S p None x = refl
+places_listed S p (Some Runnable) x = refl
+places_listed S p (Some (Waits called since until stage)) x =
+    listed_swapped x (if (meaning_of called).by_stage then [] else call_places S.opens (get S.tables p) called) (only (moment_place until))
+    ∙ ap (listed x)
+    (sym (noted_joined (moment_spot until) (call_spots (meaning_of called).by_stage S p called)
     ∙ ap (λ those. those ++ noted (call_spots (meaning_of called).by_stage S p called)) (moment_noted until)
-    ∙ ap (λ those. only (moment_place until) ++ those) (call_noted (meaning_of called).by_stage S p called))
+    ∙ ap (λ those. only (moment_place until) ++ those) (call_noted (meaning_of called).by_stage S p called)))
 
-pub places_are_noted : (S : State) (p t : ℕ) → places_of S.opens (get S.tables p) (thread_of S p t) ≡ noted (spots S p t)
-places_are_noted S p t = places_noted S p (thread_of S p t)
-
--- the same by the number of the thread
-pub places_at_key : (S : State) (p t : ℕ) → t < 2 ^ 32 → places_by_key S.opens S.tables S.processes (key p t) ≡ noted (spots S p t)
-places_at_key S p t small =
+places_by_parts : (S : State) (p t : ℕ) → t < 2 ^ 32 → places_by_key S.opens S.tables S.processes (key p t) ≡ places_of S.opens (get S.tables p) (thread_of S p t)
+places_by_parts S p t small =
     let parts = key_parts p t small in
-    (λ i. places_of S.opens (get S.tables (parts.0 i)) (thread_of S (parts.0 i) (parts.1 i))) ∙ places_are_noted S p t
+    λ i. places_of S.opens (get S.tables (parts.0 i)) (thread_of S (parts.0 i) (parts.1 i))
+
+-- where the thread stands with this number
+pub places_cover : (S : State) (p t : ℕ) → t < 2 ^ 32 → Covers S p t (places_by_key S.opens S.tables S.processes (key p t))
+places_cover S p t small = record { all = λ x at. same x ∙ at; moments = λ m. same (Moment m) } where
+  same : (x : wait.Spot) → listed x (places_by_key S.opens S.tables S.processes (key p t)) ≡ listed x (noted (spots S p t))
+  same x = ap (listed x) (places_by_parts S p t small) ∙ places_listed S p (thread_of S p t) x

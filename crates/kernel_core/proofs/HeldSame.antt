@@ -1,23 +1,19 @@
 -- The entries of waiting threads where nothing changes at which they look.
---     same_threads_held      a process has other counts, and the same threads
 --     moved_open_held      an open has another offset
 --     drawn_left, named_threads      what draws random words, and what makes names, leaves threads the same
-use Rattle.std.proofs.Common.{◌≡◌, ℕ, Bool, true, false, [], Option, Some, is_some, Result, Ok, Err, inl, inr, refl, sym, ap, subst, ◌∙◌}
+use Rattle.std.proofs.Common.{◌≡◌, ℕ, Bool, true, false, Option, Some, Result, Ok, Err, inl, inr, refl, sym, ap, subst, ◌∙◌}
 use Rattle.std.proofs.lemmas.Bool.Decides.{eqb_tells}
 use Rattle.std.specs.Prelude.{if◌then◌else◌}
-use Rattle.std.specs.Ordering.{nat_cmp}
-use Rattle.std.specs.FinMap.{FinMap, get, insert}
+use Rattle.std.specs.FinMap.{get, insert}
 use Rattle.std.specs.declared.alloc.AllocError.{AllocError}
 use Rattle.abi_types.specs.declared.constants.Constants.{Constants}
 use Rattle.abi_types.specs.declared.reply.Answer.{Answer}
 use Rattle.abi_types.specs.declared.open_kind.OpenKind.{OpenKind}
-use Rattle.guest_locks.specs.Told.{Told}
 use Rattle.kernel_model.specs.Families.ClockCalls.{drawn_by}
 use Rattle.kernel_model.specs.Families.NameMeaning.{NameOutcome, Changes, LeadsOut, Refuses}
 use Rattle.kernel_model.specs.Families.Numbers.{can_number, made_more}
 use Rattle.kernel_model.specs.State.{ProcessState, State}
 use Rattle.kernel_model.proofs.ClockCalls.{drawn_holds}
-use Rattle.kernel_model.proofs.Locks.{Keeps, keeps_same}
 use Rattle.kernel_model.proofs.Tests.{same_some}
 use Rattle.kernel_parts.specs.Entries.{process_left}
 use Rattle.kernel_parts.specs.OwnCalls.{own_after, IsOwnDone}
@@ -27,23 +23,9 @@ use Rattle.readiness_laws.specs.Spots.{bare, never_waits}
 use Rattle.readiness_laws.specs.Watched.{looked_at}
 use Rattle.readiness_laws.proofs.WatchedSets.{kept_self}
 use Rattle.readiness_laws.proofs.WatchedTables.{opens_are_watched}
-use Rattle.kernel_core.specs.Kernel.{AreHeld, IsKept}
-use Rattle.kernel_core.proofs.HeldEnds.{process_few}
-use Rattle.kernel_core.proofs.HeldTold.{told_is_held}
-use Rattle.kernel_core.proofs.Leaving.{with_process}
+use Rattle.kernel_core.specs.Kernel.{AreHeld}
 
 -- ---- a process
-
--- nobody is told of
-abbrev nobody : Told
-nobody = record { numbers = []; all = false }
-
-pub same_threads_held : (S : State) (counts : FinMap nat_cmp ℕ) (p : ℕ) (own new : ProcessState) (V : WaitMap) → IsKept S counts → get S.processes p ≡ Some own
-    → new.threads ≡ own.threads → AreHeld (looked_at S) V → AreHeld (looked_at (with_process S p new)) V
-same_threads_held S counts p own new V kept there same held =
-    told_is_held S p own new V V nobody (process_few S counts p kept (ap is_some there)) there
-    (λ t. subst (λ threads. Keeps (get own.threads t) (get threads t)) (sym same) (keeps_same (get own.threads t))) (λ t no. ap (λ threads. get threads t) same)
-    (λ k. refl) held
 
 drawn_threads : (constants : Constants) (p : ℕ) (own : ProcessState) (length : ℕ) → (own_after (drawn_by constants p (Some own) length).updates own).threads ≡ own.threads
 drawn_threads constants p own length =

@@ -41,11 +41,12 @@ use Rattle.readiness_laws.proofs.WatchedTables.{opens_are_watched, own_rows, tab
 use Rattle.readiness_laws.proofs.WatchedTimes.{kept_is_watched}
 use Rattle.kernel_core.specs.Kernel.{AreHeld}
 use Rattle.kernel_core.specs.Readiness.{is_concerned_by, is_concerned_in, left_at_open, number_changed, open_changed, AreLeftBy}
-use Rattle.kernel_core.proofs.HeldChannels.{last_kept, stands_there}
+use Rattle.kernel_core.proofs.HeldChannels.{stands_there}
+use Rattle.kernel_core.proofs.HeldTimes.{no_last_kept}
 
 -- ---- threads that are spread
 
-pub spread_has : (o : Option Waiting) (w : Waiting) → option_map spread_out o ≡ Some w → (w.everywhere && w.left) ≡ true
+spread_has : (o : Option Waiting) (w : Waiting) → option_map spread_out o ≡ Some w → (w.everywhere && w.left) ≡ true
 spread_has None w is = absurd (none_is_no w is)
 spread_has (Some v) w is = ap (λ (x : Waiting). x.everywhere && x.left) (sym (same_some (spread_out v) w is))
 
@@ -72,14 +73,14 @@ table_is_held S p new V W held kept how =
             how
         | inr other ↦ inl (get-insert-other S.tables p new q other.1)
       ]));
-      last = last_kept V W kept held.last;
+      last = no_last_kept V W kept held.last;
     }
 
 pub received_is_held : (S : State) (p : ℕ) (table new : Table) (V W : WaitMap) (so : Bool) → get S.tables p ≡ Some table → p < 2 ^ 32 → (so ≡ false → new ≡ table)
     → HasEach (λ k. spread_if (so && is_own p k)) V W → AreHeld (looked_at S) V → AreHeld (looked_at (record S { tables = insert S.tables p new })) W
 received_is_held S p table new V W true there few same each held =
     let kept : AreKept V W = spread_keeps (is_own p) V W each in
-    table_is_held S p new V W held kept (inr (inl (own_spread p V W few each (last_kept V W kept held.last))))
+    table_is_held S p new V W held kept (inr (inl (own_spread p V W few each (no_last_kept V W kept held.last))))
 received_is_held S p table new V W false there few same each held =
     table_is_held S p new V W held (spread_keeps (λ k. false) V W each) (inl (get-insert-same S.tables p new ∙ ap Some (same refl) ∙ sym there))
 
@@ -100,7 +101,7 @@ module _ (S : State) (p : ℕ) (old new : Table) (number : Option ℕ) (V W : Wa
   kept_by_number = spread_keeps (λ k. is_concerned_by p number (get S.processes p) k) V W each
 
   last_by_number : HasNoLast W
-  last_by_number = last_kept V W kept_by_number held.last
+  last_by_number = no_last_kept V W kept_by_number held.last
 
   not_named : (t n : ℕ) (w : Waiting) (call : Call) (since : ℕ) (until : Option ℕ) (stage : Stage) → t < 2 ^ 32 → get W (key p t) ≡ Some w
       → (w.everywhere && w.left) ≡ false → thread_of S p t ≡ Some (Waits call since until stage) → looks_for n call ≡ true → number ≡ Some n → ⊥
@@ -130,7 +131,7 @@ module _ (S : State) (p : ℕ) (old new : Table) (number : Option ℕ) (V W : Wa
 pub more_is_held : (S : State) (V W : WaitMap) → AreKept V W → AreHeld (looked_at S) V → AreHeld (looked_at S) W
 more_is_held S V W kept held = record {
   watched = kept_is_watched S V W held.watched kept;
-  last = last_kept V W kept held.last;
+  last = no_last_kept V W kept held.last;
 }
 
 left_so : (w : Waiting) (b : Bool) → b ≡ true → (w.left ≡ false → b ≡ false) → w.left ≡ true
@@ -173,7 +174,7 @@ module _ (S : State) (o : ℕ) (kind : OpenKind) (flags : ℕ) (V : WaitMap) (th
             (λ p n d row. at_open d.id (λ new old. bare new ≡ bare old) (same_bare kind flags) refl)
             (λ p n c d row. at_open d.id (λ new old. (is_reader c old || is_writer c old) ≡ true → (never_waits new ≡ never_waits old) ⊎ AreLeftAt (spot.Channel c) those_at)
             (λ of. inr (at_channel c of)) (λ _. inl refl));
-        last = last_kept V those_at kept held.last;
+        last = no_last_kept V those_at kept held.last;
       }
 
 -- ---- a change of a process's descriptors

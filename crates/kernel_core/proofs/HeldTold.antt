@@ -2,7 +2,7 @@
 --     told_is_held      those that are told of are left to be tested, and who isn't is as it was
 --     told_by      the same, by what a process's calls on locks say
 --     unlock_keeps, signal_keeps, wait_keeps      what the calls leave of each thread
-use Rattle.std.proofs.Common.{◌≡◌, ◌≢◌, ℕ, ◌^◌, ◌<◌, Bool, true, false, cond, Option, None, Some, IsSome, is_some, inl, inr, refl, sym, ap, subst, ◌∙◌}
+use Rattle.std.proofs.Common.{◌≡◌, ℕ, ◌^◌, ◌<◌, Bool, true, false, cond, Option, None, Some, IsSome, is_some, inl, inr, refl, sym, ap, subst, ◌∙◌}
 use Rattle.std.proofs.lemmas.Bool.Decides.{eqb_tells}
 use Rattle.std.specs.Option.{option_map}
 use Rattle.std.specs.Ordering.{nat_cmp}
@@ -22,7 +22,7 @@ use Rattle.kernel_model.specs.Waits.{MayWait}
 use Rattle.kernel_model.proofs.LockCalls.{signal_holds, unlock_holds}
 use Rattle.kernel_model.proofs.LockPolls.{waited_holds}
 use Rattle.kernel_model.proofs.Locks.{KeepsEach, handed_keeps, keeps_same, released_keeps, signalled_keeps}
-use Rattle.kernel_model.proofs.Tests.{none_is_no, not_true, same_some}
+use Rattle.kernel_model.proofs.Tests.{none_is_no, same_some}
 use Rattle.kernel_parts.specs.OwnCalls.{own_after}
 use Rattle.kernel_parts.specs.Keys.{is_own, key}
 use Rattle.kernel_parts.specs.Touched.{IsKept}
@@ -34,6 +34,7 @@ use Rattle.wait_set.specs.declared.waiting.Waiting.{Waiting}
 use Rattle.wait_set.specs.Waits.{WaitMap, spread_out, touched}
 use Rattle.readiness_laws.specs.Watched.{looked_at}
 use Rattle.readiness_laws.specs.WatchedChanges.{AreKept, BothKept, IsLeft, ThreadChange, stays, told}
+use Rattle.readiness_laws.proofs.WatchedSets.{spread_kept, touched_kept}
 use Rattle.readiness_laws.proofs.WatchedTables.{threads_are_watched}
 use Rattle.kernel_core.specs.Kernel as kernel
 use Rattle.kernel_core.specs.Kernel.{AreHeld}
@@ -43,12 +44,6 @@ use Rattle.kernel_core.proofs.Leaving.{with_process}
 use Rattle.kernel_core.proofs.Parks.{thread_by}
 
 -- ---- the entries
-
-touched_kept : (v : Waiting) → IsKept v (touched v)
-touched_kept v = record { spots = refl; same = λ done. absurd (not_true (sym done)); everywhere = λ only. only }
-
-spread_kept : (v : Waiting) → IsKept v (spread_out v)
-spread_kept v = record { spots = refl; same = λ done. absurd (not_true (sym done)); everywhere = λ only. absurd (not_true (sym only)) }
 
 changed_so : (f : Waiting → Waiting) → ((v : Waiting) → IsKept v (f v)) → (b : Bool) (o : Option Waiting) → BothKept o (cond b (option_map f o) o)
 changed_so f keeps true None = tt

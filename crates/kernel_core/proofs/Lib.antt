@@ -35,4 +35,6 @@ pub mod HeldSame
 pub mod HeldEntries
 pub mod HeldPlaces
 pub mod HeldStanding
+pub mod HeldTests
+pub mod HeldRunners
 pub mod HeldDeadlines

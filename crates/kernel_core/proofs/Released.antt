@@ -1,6 +1,7 @@
 -- What a release leaves.
 --     released_to      the whole state, with the clock and the streams, at which it doesn't look
 --     kept_released      what the code keeps of it
+--     released_is_held      whomever it concerns that something has ended is left
 use Rattle.std.proofs.Common.{◌≡◌, ℕ, ◌^◌, sym, ap, subst, ◌∙◌}
 use Rattle.std.specs.Ordering.{nat_cmp}
 use Rattle.std.specs.FinMap.{FinMap}
@@ -11,8 +12,14 @@ use Rattle.kernel_model.specs.State.{State, tree_of}
 use Rattle.kernel_model.specs.Valid.{IsNearlyValid, IsValid}
 use Rattle.kernel_model.proofs.Valids.{release_restores}
 use Rattle.kernel_parts.specs.Released.{state_by}
+use Rattle.kernel_parts.specs.Touched.{IsTouched}
+use Rattle.kernel_parts.specs.Touching.{HasNoLast}
+use Rattle.kernel_parts.proofs.LeftEntries.{no_last_kept}
 use Rattle.kernel_parts.proofs.Releases.{release_besides}
-use Rattle.kernel_core.specs.Kernel.{IsKept}
+use Rattle.wait_set.specs.Waits.{WaitMap}
+use Rattle.readiness_laws.specs.Watched.{looked_at}
+use Rattle.readiness_laws.proofs.Watched.{touched_is_watched}
+use Rattle.kernel_core.specs.Kernel.{AreHeld, IsKept}
 use Rattle.kernel_core.proofs.Channels.{AreCounted}
 use Rattle.kernel_core.proofs.Kept.{AreSmall, below_released, small_released}
 
@@ -34,4 +41,22 @@ kept_released U T counts is nearly counted few small below =
       few = few;
       small = subst AreSmall (sym tables) (small_released U small);
       processes = subst (KeysBelow (2 ^ 32)) (sym tables) (below_released U (2 ^ 32) below);
+    }
+
+pub released_is_held : (U T given : State) (V W : WaitMap) → given ≡ parts U → AreHeld (looked_at U) V → (HasNoLast V → IsTouched given (parts T) V W)
+    → T.clock ≡ U.clock → AreHeld (looked_at T) W
+released_is_held U T given V W is held ended clock =
+    let by : IsTouched (parts U) (parts T) V W = subst (λ (X : State). IsTouched X (parts T) V W) is (ended held.last) in
+    record {
+      watched = touched_is_watched U T V W held.watched (record {
+        kept = by.kept;
+        gone = by.gone;
+        stay = λ p t w small there. let same = by.stay p t w small there in record { thread = same.thread; table = same.table };
+        channels = by.channels;
+        ends = by.ends;
+        rows = by.rows;
+        threads = by.threads;
+        clock = clock;
+      });
+      last = no_last_kept (parts U) (parts T) V W by held.last;
     }

@@ -1,16 +1,13 @@
 -- Whether a thread is ready, by what its readiness hangs on, and where it stands.
 --     waits_no_more, ready_by_key      whether a thread waits and goes on now; the same by its number among those of all processes
 --     places_of, places_by_key      where a thread stands, as its call looks at things now; the same by its number
---     seen      the state of which these are the parts
---     stood spots w, parked spots w      the entry once its thread stands at these alone; once it does, and is left to be tested
 --     at_key key f      what becomes of each entry where f is done to that of this number
---     HasStood key spots V W      a thread that begins to wait stands there, or everywhere where memory lacked
---     IsGathered places V W      each entry is the same, or stands at its places
+--     HasStood key f spots V W      f is done to the entry of this number, and then it stands there, or everywhere where memory lacked
+--     IsGathered places V W      each entry is the same, or stands at its places, or everywhere where memory lacked
 --     left_where_done, has_received, AreLeftBy ..      who is left as calls are done
---     IsSettled constants S V W      the entries went with the state, and do, and none is left to be tested
 use Rattle.std.specs.Prelude.{◌≡◌, ◌⊎◌, ℕ, ◌/◌, ◌%◌, ◌^◌, Bool, true, false, List, [], ◌∷◌, Option, None, Some, cond, nat_eq, option_map}
 use Rattle.std.specs.Ordering.{nat_cmp}
-use Rattle.std.specs.FinMap.{FinMap, get}
+use Rattle.std.specs.FinMap.{FinMap, get, insert}
 use Rattle.abi_types.specs.declared.constants.Constants.{Constants}
 use Rattle.abi_types.specs.declared.descriptor.Descriptor.{Descriptor}
 use Rattle.abi_types.specs.declared.family.DescriptorChange.{DescriptorChange}
@@ -26,17 +23,14 @@ use Rattle.abi_types.specs.declared.thread.Thread.TheVariants.{Runnable, Waits}
 use Rattle.kernel_model.specs.Channels.{Channel}
 use Rattle.kernel_model.specs.Families.DescriptorCalls.{lowest_free}
 use Rattle.kernel_model.specs.OwnChanges.{is_done}
-use Rattle.kernel_model.specs.State.{ProcessState, State, Table, no_state, thread_in}
-use Rattle.kernel_model.specs.Waits.{HasDeadlines}
-use Rattle.kernel_core.specs.Kernel.{AreHeld}
+use Rattle.kernel_model.specs.State.{ProcessState, Table, thread_in}
 use Rattle.kernel_parts.specs.Entries.{open_with}
 use Rattle.kernel_parts.specs.Noted.{wait_places}
 use Rattle.kernel_parts.specs.Touching.{HasEach, is_concerned, spread_if, stands_at_end}
 use Rattle.kernel_parts.specs.Waiting.{goes_on}
-use Rattle.readiness_laws.specs.WatchLaws.{NoneLeft}
 use Rattle.wait_set.specs.declared.spot.Spot.{Spot}
 use Rattle.wait_set.specs.declared.waiting.Waiting.{Waiting}
-use Rattle.wait_set.specs.Waits.{WaitMap, spread_out, touched, where_so}
+use Rattle.wait_set.specs.Waits.{IsStood, WaitMap, touched, where_so}
 
 -- whether the thread waits and goes on now
 abbrev pub waits_no_more : Constants → FinMap nat_cmp OpenKind → FinMap nat_cmp Channel → FinMap nat_cmp Status → ℕ → Option Table → Option Thread → Bool
@@ -54,16 +48,6 @@ abbrev pub ready_by_key : Constants → FinMap nat_cmp OpenKind → FinMap nat_c
 ready_by_key constants opens channels statuses now tables processes k =
     waits_no_more constants opens channels statuses now (get tables (k / 2 ^ 32)) (thread_by_key processes k)
 
-abbrev pub seen : FinMap nat_cmp OpenKind → FinMap nat_cmp Channel → FinMap nat_cmp Status → ℕ → FinMap nat_cmp Table → FinMap nat_cmp ProcessState → State
-seen opens channels statuses now tables processes = record no_state {
-  clock = now;
-  tables = tables;
-  processes = processes;
-  statuses = statuses;
-  opens = opens;
-  chans = channels;
-}
-
 -- ---- where threads stand
 
 abbrev pub places_of : FinMap nat_cmp OpenKind → Option Table → Option Thread → List Spot
@@ -74,23 +58,18 @@ places_of opens table (Some (Waits call since until stage)) = wait_places opens 
 abbrev pub places_by_key : FinMap nat_cmp OpenKind → FinMap nat_cmp Table → FinMap nat_cmp ProcessState → ℕ → List Spot
 places_by_key opens tables processes k = places_of opens (get tables (k / 2 ^ 32)) (thread_by_key processes k)
 
-abbrev pub stood : List Spot → Waiting → Waiting
-stood spots w = record w { spots = spots; everywhere = false }
-
-abbrev pub parked : List Spot → Waiting → Waiting
-parked spots w = record w { spots = spots; everywhere = false; left = true }
-
 abbrev pub at_key : ℕ → (Waiting → Waiting) → ℕ → Option Waiting → Option Waiting
 at_key key f k entry = cond (nat_eq k key) (option_map f entry) entry
 
-abbrev pub HasStood : ℕ → List Spot → WaitMap → WaitMap → Type 0
-HasStood key spots V W = HasEach (at_key key (parked spots)) V W ⊎ HasEach (at_key key spread_out) V W
+abbrev pub HasStood : ℕ → (Waiting → Waiting) → List Spot → WaitMap → WaitMap → Type 0
+HasStood key f spots V W = (v : Waiting) → get V key ≡ Some v → (w : Waiting) × (W ≡ insert V key w) × IsStood spots (f v) w
+
+abbrev pub HasGathered : List Spot → Option Waiting → Option Waiting → Type 0
+HasGathered spots None entry = entry ≡ None
+HasGathered spots (Some v) entry = (w : Waiting) × (entry ≡ Some w) × ((w ≡ v) ⊎ IsStood spots v w)
 
 abbrev pub IsGathered : (ℕ → List Spot) → WaitMap → WaitMap → Type 0
-IsGathered places V W = (k : ℕ) → (get W k ≡ get V k) ⊎ (get W k ≡ option_map (stood (places k)) (get V k))
-
-abbrev pub IsSettled : Constants → State → WaitMap → WaitMap → Type 0
-IsSettled constants S V W = AreHeld S V → HasDeadlines constants S → AreHeld S W × NoneLeft W
+IsGathered places V W = (k : ℕ) → HasGathered (places k) (get V k) (get W k)
 
 -- ---- who is left
 

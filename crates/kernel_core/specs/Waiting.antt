@@ -1,5 +1,5 @@
--- Threads that wait in calls, their wakes, and what the threads of all processes do.
-use Rattle.std.specs.Prelude.{◌≡◌, ◌⊎◌, ⊤, ℕ, ◌+◌, true, Option, None, Some, if◌then◌else◌}
+-- Threads that wait in calls, and their wakes.
+use Rattle.std.specs.Prelude.{◌≡◌, ⊤, ℕ, ◌+◌, false, Option, None, Some, if◌then◌else◌}
 use Rattle.abi_types.specs.declared.call.Call.{Call}
 use Rattle.abi_types.specs.declared.constants.Constants.{Constants}
 use Rattle.abi_types.specs.declared.reply.Answer.{Answer}
@@ -11,13 +11,10 @@ use Rattle.abi_types.specs.declared.wake.WakeIn.TheVariants as wake
 use Rattle.abi_types.specs.declared.who.Who.{Who}
 use Rattle.kernel_core.specs.declared.waiting.Woken.{Woken}
 use Rattle.kernel_core.specs.declared.waiting.Woken.TheVariants.{NotReady, NoMemory, Done}
-use Rattle.kernel_model.specs.Deadlines.{least_deadline}
 use Rattle.kernel_model.specs.Families.Locks.{with_word}
 use Rattle.kernel_model.specs.State.{State, thread_of}
-use Rattle.kernel_model.specs.Wakes.{is_ready, may_queue, IsStalled, MayJump}
-use Rattle.kernel_parts.specs.Activity.{wait_by}
-use Rattle.kernel_parts.specs.declared.activity.Activity.{Activity}
-use Rattle.kernel_parts.specs.declared.activity.Activity.TheVariants.{NoThread, Busy, Waiting}
+use Rattle.kernel_model.specs.Waits.{HasDeadline, IsParked}
+use Rattle.kernel_model.specs.Wakes.{is_ready, may_queue}
 
 -- a thread that makes a call in this state: the call is made at the moment after the 1000 nanoseconds that it takes
 abbrev pub caller : State → ℕ → ℕ → Who
@@ -47,9 +44,13 @@ call_ahead (wake.Plain word) None = None
 call_ahead (wake.Plain word) (Some Runnable) = None
 call_ahead (wake.Plain word) (Some (Waits call since until stage)) = if may_queue call (Some stage) then Some (with_word word call) else None
 
--- until when the thread waits that has these numbers, whether it goes on now or not
-abbrev pub wait_in : State → ℕ × ℕ → Activity
-wait_in S i = wait_by (thread_of S i.0 i.1)
+-- no thread runs
+abbrev pub NoneRuns : State → Type 0
+NoneRuns S = (p t : ℕ) (thread : Thread) → thread_of S p t ≡ Some thread → IsParked thread
+
+-- the thread isn't ready in a run in which it waits until its call's deadline
+abbrev pub IsUnready : State → ℕ → ℕ → Type 0
+IsUnready S p t = (constants : Constants) → HasDeadline constants (thread_of S p t) → is_ready constants S p t ≡ false
 
 -- where the thread wasn't ready this holds
 abbrev pub IfNotReady : Woken → Type 0 → Type 0
@@ -65,11 +66,3 @@ IfNoMemory other P = ⊤
 abbrev pub IfDone : Woken → (Call → Answer → Type 0) → Type 0
 IfDone (Done call answered) P = P call answered
 IfDone other P = ⊤
-
--- The threads of all processes do this: there is none; or one runs or is ready; or nothing can happen before the least deadline, or
--- nothing any more where there is none.
-abbrev pub ThreadsDo : Constants → State → Activity → Type 0
-ThreadsDo constants S NoThread = (p t : ℕ) → thread_of S p t ≡ None
-ThreadsDo constants S Busy = (p : ℕ) × (t : ℕ) × ((thread_of S p t ≡ Some Runnable) ⊎ (is_ready constants S p t ≡ true))
-ThreadsDo constants S (Waiting None) = IsStalled constants S
-ThreadsDo constants S (Waiting (Some until)) = MayJump constants S × (least_deadline S ≡ Some until)

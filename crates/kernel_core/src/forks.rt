@@ -14,7 +14,7 @@ ghost use Rattle.process_calls.specs.Forks.{IsPlan};
 use crate::kernel::Kernel;
 use crate::readiness::touch_number_of;
 use abi_types::{Answer, Errno, Payload, Pid, Reply, Who};
-use kernel_parts::ensure_entry;
+use kernel_parts::{ensure_entry, thread_key};
 use process_calls::{NewChild, plan_child, put_child};
 use right_rules::{refused, success_with};
 use std::alloc::AllocError;
@@ -50,14 +50,18 @@ impl Kernel {
         ensures err { OnErr result (self.new ≡ self.old) }
     {
         ensure_entry(&mut self.waits, plan.child, plan.tid)?;
-        put_child(
+        let put = put_child(
             self.alloc,
             &mut self.tables,
             &mut self.processes,
             &mut self.statuses,
             &mut self.objects,
             plan,
-        )?;
+        );
+        if let Err(error) = put {
+            self.waits.remove(thread_key(plan.child, plan.tid));
+            return Err(error);
+        }
         touch_number_of(&mut self.waits, &self.processes, plan.parent, plan.fd);
         Ok(())
     }

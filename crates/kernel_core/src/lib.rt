@@ -2,7 +2,6 @@
 #![tactic(auto)]
 
 pub use kernel::Kernel;
-pub use kernel_parts::Activity;
 pub use run_types::{Act, Entry, Launch};
 pub use waiting::Woken;
 

@@ -83,7 +83,7 @@ impl Kernel {
         ensures { IfSome kept.old (λ call. self.new ≡ with_thread self.old who.now.pid who.now.tid (waiting constants.now call who.now self.old.clock)) }
     {
         if let Some(call) = kept.take() {
-            self.begin_wait(constants, who, call);
+            self.begin_wait(constants, who, call, true);
         }
     }
 

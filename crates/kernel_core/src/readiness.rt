@@ -1,13 +1,14 @@
 //! Which threads are ready: their marks, and where they stand, brought up to date after a change.
-ghost use Rattle.std.specs.Prelude.{◌≡◌, ◌<◌, ◌&&◌, ◌^◌, Some, IsSome, IfOk, OnOk, OnErr, option_copied, option_map};
+ghost use Rattle.std.specs.Prelude.{◌≡◌, ◌<◌, ◌&&◌, ◌^◌, Some, IsSome, IfOk, option_copied, option_map};
 ghost use Rattle.std.specs.FinMap as map;
-ghost use Rattle.kernel_core.specs.Readiness.{at_key, has_received, is_concerned_in, left_where_done, places_by_key, places_of, ready_by_key, seen, stood, thread_by_key, waits_no_more, HasStood, IsGathered, IsSettled};
+ghost use Rattle.kernel_core.specs.Readiness.{at_key, has_received, is_concerned_in, left_where_done, places_by_key, places_of, ready_by_key, thread_by_key, waits_no_more, HasStood, IsGathered};
 ghost use Rattle.kernel_model.specs.OwnChanges.{is_done};
 ghost use Rattle.kernel_model.specs.Waits.{HasDeadlines};
 ghost use Rattle.kernel_parts.specs.Keys.{is_own, key};
 ghost use Rattle.kernel_parts.specs.Touching.{HasEach, spread_if};
 ghost use Rattle.readiness_laws.specs.NextReady.{thread_at, IsNextReady};
-ghost use Rattle.wait_set.specs.Waits.{fresh, is_due, is_everywhere, touched, where_so};
+ghost use Rattle.kernel_model.specs.Wakes.{is_ready};
+ghost use Rattle.wait_set.specs.Waits.{is_due, is_everywhere, resting, running, touched, where_so};
 
 use crate::kernel::Kernel;
 use abi_types::{Answer, Constants, Errno, OpenKind, Payload, Pid, Reply, Thread, Tid};
@@ -152,7 +153,7 @@ fn thread_at(processes: &NumMap<ProcessState>, key: u64) -> Option<&Thread>
     processes.get(u64::from(pid.0))?.thread(tid)
 }
 
-// Has a thread that has an entry stand where its call looks. `Err` where memory lacks for that, and changes nothing.
+// Has a thread that has an entry stand where its call looks, and where memory lacks for that everywhere.
 fn stand_anew(
     waits: &mut WaitSet,
     alloc: Global,
@@ -160,35 +161,35 @@ fn stand_anew(
     tables: &NumMap<FdTable>,
     processes: &NumMap<ProcessState>,
     key: u64,
-) -> Result<(), AllocError>
+)
     requires { IsSome (map.get waits.old key) }
-    ensures ok { OnOk result (HasEach (at_key key (stood (places_by_key objects.now.kinds tables.now processes.now key))) waits.old waits.new) }
-    ensures err { OnErr result (waits.new ≡ waits.old) }
+    ensures { HasStood key (λ v. v) (places_by_key objects.now.kinds tables.now processes.now key) waits.old waits.new }
 {
     let (pid, _) = thread_of_key(key);
     let table = tables.get(u64::from(pid.0));
-    let spots = spots_of(alloc, objects, table, thread_at(processes, key))?;
-    waits.stand_anew(key, spots.as_slice())
+    match spots_of(alloc, objects, table, thread_at(processes, key)) {
+        Ok(spots) => waits.stand_anew(key, spots.as_slice()),
+        Err(_) => waits.spread(key, true),
+    }
 }
 
-// A thread that begins to wait, and has an entry, stands where its call looks, and where memory lacks for that everywhere. It is left.
-pub(crate) fn stand(
+// A thread that begins to wait, and has an entry, stands where its call looks, and where memory lacks for that everywhere. It is left to be tested
+// or not.
+pub(crate) fn rest_entry(
     waits: &mut WaitSet,
     alloc: Global,
     objects: &Objects,
     tables: &NumMap<FdTable>,
     processes: &NumMap<ProcessState>,
     key: u64,
+    is_left: bool,
 )
-    ensures { HasStood key (places_by_key objects.now.kinds tables.now processes.now key) waits.old waits.new }
+    ensures { HasStood key (resting is_left) (places_by_key objects.now.kinds tables.now processes.now key) waits.old waits.new }
 {
-    if !waits.contains(key) {
-        return;
+    if waits.contains(key) {
+        waits.rest(key, is_left);
+        stand_anew(waits, alloc, objects, tables, processes, key);
     }
-    if stand_anew(waits, alloc, objects, tables, processes, key).is_err() {
-        waits.spread(key, true);
-    }
-    waits.touch_thread(key);
 }
 
 // A thread has no entry from here on.
@@ -199,12 +200,12 @@ pub(crate) fn end_entry(waits: &mut WaitSet, pid: Pid, number: u32)
     waits.remove(thread_key(pid, Tid(number)));
 }
 
-// A thread stands nowhere from here on, and is left.
-pub(crate) fn clear_entry(waits: &mut WaitSet, key: u64)
-    ensures { HasEach (at_key key (λ _. fresh)) waits.old waits.new }
+// A thread runs from here on. Of its places it keeps those that are no moments.
+pub(crate) fn run_entry(waits: &mut WaitSet, key: u64)
+    ensures { HasEach (at_key key running) waits.old waits.new }
 {
     if waits.contains(key) {
-        waits.clear(key);
+        waits.run(key);
     }
 }
 
@@ -220,35 +221,13 @@ fn gather(
 {
     let mut after = None;
     while let Some(key) = waits.next_everywhere(after) {
-        let _ = stand_anew(waits, alloc, objects, tables, processes, key);
+        stand_anew(waits, alloc, objects, tables, processes, key);
         after = Some(key);
     }
 }
 
-// Looks once at each thread that is left, and has those that stand everywhere stand where their calls look. None is left then.
-fn settle_waits<L: Ledger>(
-    waits: &mut WaitSet,
-    alloc: Global,
-    looked: &Looked<'_>,
-    steps: &mut Steps<L>,
-)
-    ensures { IsSettled looked.now.around.constants.now (seen looked.now.around.objects.now.kinds looked.now.around.channels.now looked.now.around.statuses.now looked.now.around.now looked.now.tables.now looked.now.processes.now) waits.old waits.new }
-{
-    if !waits.has_left() {
-        return;
-    }
-    waits.settle_all(looked, steps);
-    gather(
-        waits,
-        alloc,
-        looked.around.objects,
-        looked.tables,
-        looked.processes,
-    );
-}
-
 impl Kernel {
-    // The ready thread with the least number above this one, or of all, once each was looked at that is left.
+    // The ready thread with the least number above this one, or of all.
     fn settle_next<L: Ledger>(
         &mut self,
         constants: &Constants,
@@ -270,33 +249,52 @@ impl Kernel {
             tables: &self.tables,
             processes: &self.processes,
         };
-        settle_waits(&mut self.waits, self.alloc, &looked, steps);
-        self.waits.next_ready(after)
+        let next = self.waits.next_settled(&looked, after, steps);
+        gather(
+            &mut self.waits,
+            self.alloc,
+            &self.objects,
+            &self.tables,
+            &self.processes,
+        );
+        next
     }
 
-    /// Looks once at each thread that a change may have made ready or not ready, which none is then.
-    pub fn settle<L: Ledger>(&mut self, constants: &Constants, steps: &mut Steps<L>)
+    /// The ready thread with the least numbers behind this one, or of all, in a run with these constants. Only those are tested that something has
+    /// happened to since they were last, and none behind it: `steps` counts them.
+    pub fn next_tested<L: Ledger>(
+        &mut self,
+        constants: &Constants,
+        after: Option<(Pid, Tid)>,
+        steps: &mut Steps<L>,
+    ) -> Option<(Pid, Tid)>
         requires deadlines { HasDeadlines constants.now self.old }
-        ensures { self.new ≡ self.old }
+        ensures same { self.new ≡ self.old }
+        ensures next { IsNextReady constants.now self.old after result }
     {
-        self.settle_next(constants, None, steps);
+        let after = match after {
+            Some((pid, tid)) => Some(thread_key(pid, tid)),
+            None => None,
+        };
+        let key = self.settle_next(constants, after, steps)?;
+        Some(thread_of_key(key))
     }
 
-    // The same as `settle_next`, where nobody counts.
+    // The same, where nobody counts.
     fn next_by<L: Ledger>(
         &mut self,
         constants: &Constants,
-        after: Option<u64>,
+        after: Option<(Pid, Tid)>,
         blank: Blank,
-    ) -> Option<u64>
+    ) -> Option<(Pid, Tid)>
         requires name { blank.name ≡ L.name }
         requires parts { blank.parts ≡ L.parts }
         requires some { 0 < blank.parts }
         requires deadlines { HasDeadlines constants.now self.old }
         ensures same { self.new ≡ self.old }
-        ensures next { IsNextReady constants.now self.old (option_map thread_at after) (option_map thread_at result) }
+        ensures next { IsNextReady constants.now self.old after result }
     {
-        self.settle_next(constants, after, &mut Steps::<L>::new(blank))
+        self.next_tested(constants, after, &mut Steps::<L>::new(blank))
     }
 
     /// The ready thread with the least numbers behind this one, or of all, in a run with these constants.
@@ -309,21 +307,24 @@ impl Kernel {
         ensures same { self.new ≡ self.old }
         ensures next { IsNextReady constants.now self.old after result }
     {
-        let after = match after {
-            Some((pid, tid)) => Some(thread_key(pid, tid)),
-            None => None,
-        };
-        let key = self.next_by::<Brand>(constants, after, Blank::new(1))?;
-        Some(thread_of_key(key))
+        self.next_by::<Brand>(constants, after, Blank::new(1))
     }
 
-    /// Whether some thread became ready, or is no more, since this was last asked. Who is ready is told by `next_ready`.
-    pub fn take_news(&mut self, constants: &Constants) -> bool
-        requires deadlines { HasDeadlines constants.now self.old }
-        ensures { self.new ≡ self.old }
+    // Whether a thread waits and goes on now: by its mark, and where it is left to be tested by a look at it.
+    pub(crate) fn goes_on_now(&self, constants: &Constants, pid: Pid, tid: Tid) -> bool
+        requires deadlines { HasDeadlines constants.now self.now }
+        ensures { result ≡ is_ready constants.now self.now pid tid }
     {
-        self.next_by::<Brand>(constants, None, Blank::new(1));
-        self.waits.take_news()
+        match self.waits.marked(thread_key(pid, tid)) {
+            Some(ready) => ready,
+            None => self.is_ready(constants, pid, tid),
+        }
+    }
+
+    /// Whether something has happened to a thread that waits since it was last tested, or a thread is no more of which nobody was told. Who is ready
+    /// is told by `next_ready`, and who is no more by `take_gone`.
+    pub fn has_news(&self) -> bool {
+        self.waits.has_news()
     }
 
     /// A thread that is no more, since its process has ended, or another program began in it, and of which nobody was told.

@@ -1,9 +1,10 @@
 //! Threads that wait in calls: how they begin to, their wakes, and the jumps of time where nothing else can happen.
-ghost use Rattle.std.specs.Prelude.{◌≡◌, ◌≢◌, ◌^◌, ◌<◌, ◌≤◌, ◌↔◌, ℕ, ⊤, Some, IsSome, IfOk, OnOk, OnErr, IsTrue, IsFalse, false, true, option_copied};
+ghost use Rattle.std.specs.Prelude.{◌≡◌, ◌≢◌, ◌^◌, ◌<◌, ◌≤◌, ◌↔◌, ℕ, Some, IsSome, IfOk, OnOk, OnErr, IsTrue, IsFalse, false, true, option_copied};
 ghost use Rattle.abi_types.specs.declared.constants.Constants.{Constants};
 ghost use Rattle.abi_types.specs.declared.reply.Answer.TheVariants as answer;
 ghost use Rattle.abi_types.specs.declared.wake.WakeIn.TheVariants as wake;
-ghost use Rattle.kernel_core.specs.Waiting.{call_ahead, kept_call, wait_in, waiter, IfDone, IfNoMemory, IfNotReady, ThreadsDo};
+ghost use Rattle.kernel_core.specs.Readiness.{thread_by_key};
+ghost use Rattle.kernel_core.specs.Waiting.{call_ahead, kept_call, waiter, waits_until, IfDone, IfNoMemory, IfNotReady, IsUnready, NoneRuns};
 ghost use Rattle.kernel_model.specs.Calls.{meaning_of};
 ghost use Rattle.kernel_model.specs.Deadlines.{idle_state, least_deadline};
 ghost use Rattle.kernel_model.specs.Outcome.{is_parked};
@@ -11,19 +12,18 @@ ghost use Rattle.kernel_model.specs.State.{Part, Agree, thread_of};
 ghost use Rattle.kernel_model.specs.Step.{step_answer, tick, IsStep, IsUntouched};
 ghost use Rattle.kernel_model.specs.Valid.{IsValid};
 ghost use Rattle.kernel_model.specs.Waits.{may_wait, resumed, waiting, with_thread, HasDeadlines, WaitsIn};
-ghost use Rattle.kernel_model.specs.Wakes.{is_ready, woken, IsStalled, IsWake, LacksNoMemory, MayJump};
-ghost use Rattle.kernel_parts.specs.Activity.{IsActivity};
+ghost use Rattle.kernel_model.specs.Wakes.{is_ready, woken, IsStalled, IsWake, LacksNoMemory, MayJump, NoneReady};
 ghost use Rattle.kernel_parts.specs.Waiting.{kept_in};
 
 use crate::kernel::{Kernel, STEP_TIME};
 use crate::locks::may_queue;
-use crate::readiness::{clear_entry, stand, touch_time};
+use crate::readiness::{rest_entry, run_entry, touch_time};
 use abi_types::{
     Answer, Call, Constants, Errno, Pid, Reply, Stage, Thread, Tid, TryClone, WakeIn, Who,
 };
 use guest_locks::set_word;
-use kernel_parts::{Activity, goes_on, next_number, thread_key};
-use poll_set::{Surroundings, lock_subscription};
+use kernel_parts::{goes_on, thread_key, thread_of_key};
+use poll_set::{Surroundings, lock_subscription, sooner};
 use right_rules::refused;
 use std::alloc::AllocError;
 
@@ -39,26 +39,28 @@ pub enum Woken {
 }
 
 impl Kernel {
-    // Makes the thread wait in a call that it made. Takes no memory.
-    pub(crate) fn begin_wait(&mut self, constants: &Constants, who: &Who, kept: Call)
+    // Makes the thread wait in a call that it made. It is left to be tested, unless it can't be ready yet. Takes no memory.
+    pub(crate) fn begin_wait(&mut self, constants: &Constants, who: &Who, kept: Call, is_left: bool)
         requires there { IsSome (thread_of self.old who.now.pid who.now.tid) }
         requires may { may_wait kept ≡ true }
+        requires unready { is_left ≡ false → IsUnready (with_thread self.old who.now.pid who.now.tid (waiting constants.now kept who.now self.old.clock)) who.now.pid who.now.tid }
         ensures { self.new ≡ with_thread self.old who.now.pid who.now.tid (waiting constants.now kept who.now self.old.clock) }
     {
         let now = self.clock;
         let own = self.processes.get_mut(u64::from(who.pid.0));
         own.park(constants, who, now, kept);
-        stand(
+        rest_entry(
             &mut self.waits,
             self.alloc,
             &self.objects,
             &self.tables,
             &self.processes,
             thread_key(who.pid, who.tid),
+            is_left,
         );
     }
 
-    // The same in a copy of the call. `Err` changes nothing.
+    // The same in a copy of the call, where it can't be ready yet. `Err` changes nothing.
     pub(crate) fn park(
         &mut self,
         constants: &Constants,
@@ -67,11 +69,12 @@ impl Kernel {
     ) -> Result<(), AllocError>
         requires there { IsSome (thread_of self.old who.now.pid who.now.tid) }
         requires may { may_wait call.now ≡ true }
+        requires unready { IsUnready (with_thread self.old who.now.pid who.now.tid (waiting constants.now call.now who.now self.old.clock)) who.now.pid who.now.tid }
         ensures ok { OnOk result (self.new ≡ with_thread self.old who.now.pid who.now.tid (waiting constants.now call.now who.now self.old.clock)) }
         ensures err { OnErr result (self.new ≡ self.old) }
     {
         let kept = call.copy()?;
-        self.begin_wait(constants, who, kept);
+        self.begin_wait(constants, who, kept, false);
         Ok(())
     }
 
@@ -93,7 +96,7 @@ impl Kernel {
     }
 
     // Lets a thread run that waits, and gives back the call that it waited in, when that was made, and how far its wait had come. `None`
-    // exactly where the thread doesn't wait; then the state is the same. It stands nowhere from here on.
+    // exactly where the thread doesn't wait; then the state is the same.
     fn resume(&mut self, pid: Pid, tid: Tid) -> Option<(Call, u64, Stage)>
         ensures kept { result ≡ kept_in (thread_of self.old pid tid) }
         ensures runs { self.new ≡ with_thread self.old pid tid Thread.Runnable }
@@ -103,7 +106,7 @@ impl Kernel {
             return None;
         }
         let resumed = self.processes.get_mut(p).resume(tid);
-        clear_entry(&mut self.waits, thread_key(pid, tid));
+        run_entry(&mut self.waits, thread_key(pid, tid));
         resumed
     }
 
@@ -187,6 +190,7 @@ impl Kernel {
     /// signal is lost: where it can't be had nothing changes. Of any other call that it waited in `Errno::Nomem` comes only where memory runs out and
     /// it would else succeed. A wake that answers an error moves only the clock, and the thread runs.
     pub fn wake(&mut self, constants: &Constants, pid: Pid, tid: Tid, given: WakeIn) -> Woken
+        requires deadlines { HasDeadlines constants.now self.old }
         requires early { self.old.clock < 2 ^ 63 }
         requires epoch { constants.now.epoch ≤ 2 ^ 62 }
         ensures not_ready { IfNotReady result ((is_ready constants.now self.old pid tid ≡ false) × (self.new ≡ self.old)) }
@@ -202,7 +206,7 @@ impl Kernel {
         ensures refused { IfDone result (λ done answered. (reply : Reply) → answered ≡ answer.Reply reply → reply.errno ≢ Errno.Success
             → self.new ≡ tick (with_thread self.old pid tid Thread.Runnable)) }
     {
-        if !self.is_ready(constants, pid, tid) {
+        if !self.goes_on_now(constants, pid, tid) {
             return Woken::NotReady;
         }
         match given {
@@ -238,82 +242,85 @@ impl Kernel {
         }
     }
 
-    /// What the threads of all processes do, in a run with these constants. Looks at each thread.
-    pub fn activity(&self, constants: &Constants) -> Activity
-        ensures { ThreadsDo constants.now self.now result }
+    // Whether each thread waits, and none is ready.
+    fn is_quiet(&mut self, constants: &Constants) -> bool
+        requires deadlines { HasDeadlines constants.now self.old }
+        ensures same { self.new ≡ self.old }
+        ensures exact { IsTrue result ↔ (NoneRuns self.old × NoneReady constants.now self.old) }
+        ensures valid { IsValid self.old }
     {
-        let around = self.around(constants);
-        let mut found = Activity::NoThread;
-        let mut last = None;
-        while let Some(p) = next_number(&self.processes, last) {
-            if let Some(own) = self.processes.get(p) {
-                found = found.with(own.activity(around, self.tables.get(p)));
-            }
-            last = Some(p);
-        }
-        found
+        !self.waits.has_running() && self.next_ready(constants, None).is_none()
     }
 
     /// Lets time go to the next deadline, but as far as each entry moves it at least. `true` exactly where it may, in a run with these
-    /// constants: there are live threads, each waits, none is ready, and one has a deadline. Else nothing changes. Looks at each thread.
+    /// constants: there are live threads, each waits, none is ready, and one has a deadline. Else nothing changes. Tests those alone that something
+    /// has happened to.
     pub fn idle(&mut self, constants: &Constants) -> bool
+        requires deadlines { HasDeadlines constants.now self.old }
         requires early { self.old.clock < 2 ^ 63 }
         ensures exact { IsTrue result ↔ MayJump constants.now self.old }
         ensures jumps { IsTrue result → self.new ≡ idle_state self.old }
         ensures none { IsFalse result → self.new ≡ self.old }
         ensures valid { IsValid self.new }
     {
-        match self.activity(constants) {
-            Activity::Waiting { until: deadline } => {
-                let Some(until) = deadline else {
-                    return false;
-                };
-                let soonest = self.clock + STEP_TIME;
-                let before = self.clock;
-                self.clock = if soonest < until { until } else { soonest };
-                touch_time(&mut self.waits, before, self.clock);
-                true
-            }
-            _ => false,
+        if !self.is_quiet(constants) {
+            return false;
         }
+        let Some(until) = self.next_deadline() else {
+            return false;
+        };
+        let soonest = self.clock + STEP_TIME;
+        let before = self.clock;
+        self.clock = if soonest < until { until } else { soonest };
+        touch_time(&mut self.waits, before, self.clock);
+        true
     }
 
     /// Whether nothing can happen any more in a run with these constants: there are live threads, each waits, none is ready, and none has
-    /// a deadline. Looks at each thread.
-    pub fn stalled(&self, constants: &Constants) -> bool
-        ensures { IsTrue result ↔ IsStalled constants.now self.now }
+    /// a deadline. Tests those alone that something has happened to.
+    pub fn stalled(&mut self, constants: &Constants) -> bool
+        requires deadlines { HasDeadlines constants.now self.old }
+        ensures same { self.new ≡ self.old }
+        ensures exact { IsTrue result ↔ IsStalled constants.now self.old }
     {
-        match self.activity(constants) {
-            Activity::Waiting { until } => until.is_none(),
-            _ => false,
+        if !self.is_quiet(constants) {
+            return false;
+        }
+        !self.waits.is_empty() && self.next_deadline().is_none()
+    }
+
+    // Until when the thread with this number waits, if there is such a moment.
+    fn until_of(&self, key: u64) -> Option<u64>
+        ensures { result ≡ waits_until (thread_by_key self.now.processes key) }
+    {
+        let (pid, tid) = thread_of_key(key);
+        match self.thread(pid, tid)? {
+            Thread::Waits { until, .. } => *until,
+            Thread::Runnable => None,
         }
     }
 
-    // Until when the threads of all processes wait, whether they go on now or not. Looks at each thread.
-    fn waiting(&self) -> Activity
-        ensures { IsActivity (wait_in self.now) (λ _. ⊤) result }
+    // The earliest moment until which a thread waits, if there is one. Looks at each thread.
+    fn least_until(&self) -> Option<u64>
+        ensures { (constants : Constants) → HasDeadlines constants self.now → result ≡ least_deadline self.now }
     {
-        let mut found = Activity::NoThread;
-        let mut last = None;
-        while let Some(p) = next_number(&self.processes, last) {
-            if let Some(own) = self.processes.get(p) {
-                found = found.with(own.waiting());
-            }
-            last = Some(p);
+        let mut least = None;
+        let mut after = None;
+        while let Some(key) = self.waits.next_thread(after) {
+            least = sooner(least, self.until_of(key));
+            after = Some(key);
         }
-        found
+        least
     }
 
-    /// The least deadline, if a thread has one, whether it goes on now or not. Looks at each thread only where memory lacked as one began to wait.
+    /// The least deadline, if a thread has one, whether it goes on now or not. Looks at threads only where memory lacked as one began to wait, and
+    /// lacks still.
     pub fn next_deadline(&self) -> Option<u64>
         ensures { (constants : Constants) → HasDeadlines constants self.now → result ≡ least_deadline self.now }
     {
-        let Some(_) = self.waits.next_everywhere(None) else {
-            return self.waits.next_moment(None);
-        };
-        match self.waiting() {
-            Activity::Waiting { until } => until,
-            _ => None,
+        match self.waits.next_everywhere(None) {
+            None => self.waits.next_moment(None),
+            Some(_) => self.least_until(),
         }
     }
 }

@@ -21,7 +21,7 @@ use Rattle.wait_set.specs.declared.waiting.Waiting.{Waiting}
 use Rattle.wait_set.specs.Waits.{WaitMap, spread_out, touched}
 use Rattle.kernel_parts.specs.Keys.{is_own, key}
 use Rattle.kernel_parts.specs.Touching.{HasEach, is_among, is_concerned, left_if, spread_if, told_entry, waits_on}
-use Rattle.kernel_parts.proofs.Activities.{IsPast, next_above, passed, past_all, past_next}
+use Rattle.kernel_parts.proofs.Walks.{IsPast, next_above, passed, past_all, past_next}
 use Rattle.kernel_parts.proofs.ThreadKeys.{key_apart, own_apart, own_from, own_key}
 
 abbrev pub done_until : ℕ → ℕ → Threads → Option ℕ → ℕ → Bool

@@ -62,7 +62,7 @@ module _ (f : Waiting → Bool) (v w : Waiting) (is : w ≡ cond (f v) (touched 
   pub left_kept : IsKept v w
   left_kept =
       elim (f v) as (λ b. w ≡ cond b (touched v) v → IsKept v w) [
-        | true ↦ λ e. subst (IsKept v) (sym e) (record { spots = refl; same = λ h. absurd (not_true (sym h)); everywhere = λ h. h })
+        | true ↦ λ e. subst (IsKept v) (sym e) (record { spots = refl; same = λ h. absurd (not_true (sym h)); everywhere = λ h. h; runs = refl })
         | false ↦ λ e. subst (IsKept v) (sym e) (is_kept_self v)
       ] is
 

@@ -7,7 +7,7 @@ pub mod Grants
 pub mod Releases
 pub mod Forgetting
 pub mod Naming
-pub mod Activities
+pub mod Walks
 pub mod NoPolls
 pub mod Parked
 pub mod Polling

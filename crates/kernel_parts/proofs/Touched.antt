@@ -13,13 +13,14 @@ use Rattle.kernel_parts.specs.Keys.{key}
 use Rattle.kernel_parts.specs.Touched.{DoesTheSame, IsKept, IsTouched, IsTouchedFollows}
 
 pub is_kept_self : (w : Waiting) → IsKept w w
-is_kept_self w = record { spots = refl; same = λ _. refl; everywhere = λ h. h }
+is_kept_self w = record { spots = refl; same = λ _. refl; everywhere = λ h. h; runs = refl }
 
 pub is_kept_follows : (v w x : Waiting) → IsKept v w → IsKept w x → IsKept v x
 is_kept_follows v w x one two = record {
   spots = two.spots ∙ one.spots;
   same = λ h. two.same h ∙ one.same (ap (λ (y : Waiting). y.left) (sym (two.same h)) ∙ h);
   everywhere = λ h. one.everywhere (two.everywhere h);
+  runs = two.runs ∙ one.runs;
 }
 
 none_has : (o : Option Waiting) → o ≡ None → IsSome o → {A : Type 0} → A

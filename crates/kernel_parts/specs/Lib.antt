@@ -4,10 +4,8 @@ pub mod Entries
 pub mod StreamCalls
 pub mod Released
 pub mod Waiting
-pub mod Activity
 pub mod OwnCalls
 pub mod Keys
 pub mod Touched
 pub mod Touching
-pub mod WaitSpots
 pub mod Noted

@@ -2,10 +2,10 @@
 --     read_place, write_place, end_place      the channel that an open reads, the one that it writes, the end of the process that it is of
 --     awaited_place what      what a subscription waits for behind the open of its number, if for anything but a moment
 --     polled_places, call_places      the same of all subscriptions, and of a call
---     wait_places      the moment until which a thread waits, and then, unless it waits for a lock or at a condition variable, those of its call
+--     wait_places      those of a thread's call, unless it waits for a lock or at a condition variable, and then the moment until which it waits
 use Rattle.std.specs.Prelude.{ℕ, Option, None, Some, List, [], ◌∷◌, ◌++◌, if◌then◌else◌}
 use Rattle.std.specs.Ordering.{nat_cmp}
-use Rattle.std.specs.FinMap.{FinMap, get}
+use Rattle.std.specs.FinMap.{FinMap}
 use Rattle.abi_structures.specs.declared.events.Subscription.{Subscription}
 use Rattle.abi_structures.specs.declared.events.What.{What}
 use Rattle.abi_structures.specs.declared.events.What.TheVariants as what
@@ -68,4 +68,4 @@ module _ (opens : FinMap nat_cmp OpenKind) (table : Option Table) where
   call_places other = []
 
   abbrev pub wait_places : Call → Option ℕ → List Spot
-  wait_places call until = only (moment_place until) ++ (if (meaning_of call).by_stage then [] else call_places call)
+  wait_places call until = (if (meaning_of call).by_stage then [] else call_places call) ++ only (moment_place until)

@@ -9,12 +9,13 @@ use Rattle.wait_set.specs.declared.spot.Spot.TheVariants.{Channel, Ended}
 use Rattle.wait_set.specs.declared.waiting.Waiting.{Waiting}
 use Rattle.wait_set.specs.Waits.{WaitMap, stands}
 
--- The second is what has become of the first entry: it stands at the spots of its list still, and may stand everywhere or be left to be tested since. Where it
--- isn't left it is the same.
+-- The second is what has become of the first entry: it stands at the spots of its list still, and runs if it ran, but may stand everywhere or be left to be
+-- tested since. Where it isn't left it is the same.
 pub record IsKept (v w : Waiting) : Type 0 where
   pub spots : w.spots ≡ v.spots
   pub same : w.left ≡ false → w ≡ v
   pub everywhere : w.everywhere ≡ false → v.everywhere ≡ false
+  pub runs : w.runs ≡ v.runs
 
 -- The thread does in both states the same, and its process has the same descriptors.
 pub record DoesTheSame (S T : State) (p t : ℕ) : Type 0 where

@@ -49,11 +49,10 @@ begun_if so (Some w) = Some w
 
 -- ---- a new thread
 
--- The process p makes a thread: nothing happens; or a number that none of its threads has gets an entry, if it has none, and nothing else happens; or a
--- thread that runs has that number then.
+-- The process p makes a thread, or nothing happens: a number that none of its threads has gets an entry, if it has none, and a thread that runs has that number
+-- then.
 pub data IsMade (p : ℕ) (before after : Threads) (V W : WaitMap) : Type 0 where
   not_made : after ≡ before → W ≡ V → IsMade p before after V W
-  lacking : (t : ℕ) → t < 2 ^ 30 → get before t ≡ None → after ≡ before → HasEach (λ k. begun_if (nat_eq k (key p t))) V W → IsMade p before after V W
   made : (t : ℕ) → t < 2 ^ 30 → get before t ≡ None → after ≡ insert before t Runnable → HasEach (λ k. begun_if (nat_eq k (key p t))) V W
       → IsMade p before after V W
 

@@ -2,12 +2,10 @@
 //! that it holds, what a process has of its own, what its threads wait for, the standard streams, and the nodes of the file tree that nothing holds any more.
 #![tactic(auto)]
 
-pub use activity::Activity;
 pub use clocks::{CLOCK_RESOLUTION, time_of};
 pub use entries::{Caller, EntryReply, change_entries};
 pub use keys::{end_key, thread_key, thread_of_key};
 pub use notes::wait_spots;
-pub use numbers::next_number;
 pub use opens::{Opening, add_open, kind_of, open_of, put_opening};
 pub use places::placed;
 pub use process::ProcessState;
@@ -20,9 +18,8 @@ pub use terminal::Terminal;
 pub use touching::{
     ensure_entry, keep_thread, touch_end, touch_ended, touch_number, touch_numbers, touch_told,
 };
-pub use waiting::{deadline_of, goes_on, socket_fd};
+pub use waiting::{goes_on, socket_fd};
 
-mod activity;
 mod clocks;
 mod entries;
 mod keys;

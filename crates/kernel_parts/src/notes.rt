@@ -122,8 +122,16 @@ fn moment_spot(until: Option<u64>) -> Option<Spot>
     Some(Spot::Moment(until?))
 }
 
-/// Where a thread stands that waits in a call until this moment, and whose process has this table: at the moment, at the channels on which its call
-/// waits, and at the ends of processes that it waits for. One that waits for a lock or at a condition variable stands at its moment alone. `Err`
+// At how many spots at most a thread stands that waits in a call.
+fn most_spots(call: &Call) -> usize {
+    match call {
+        Call::Poll { subscriptions } => subscriptions.len().saturating_add(1),
+        _ => 2,
+    }
+}
+
+/// Where a thread stands that waits in a call until this moment, and whose process has this table: at the channels on which its call waits, at the
+/// ends of processes that it waits for, and last at the moment. One that waits for a lock or at a condition variable stands at its moment alone. `Err`
 /// where memory ran out.
 pub fn wait_spots(
     alloc: Global,
@@ -134,10 +142,10 @@ pub fn wait_spots(
 ) -> Result<Vec<Spot>, AllocError>
     ensures { IfOk result (λ spots. spots.items ≡ wait_places objects.now.kinds (option_copied table.entry) call.now until) }
 {
-    let mut spots = Vec::new(alloc);
-    add_spot(&mut spots, moment_spot(until))?;
+    let mut spots = Vec::with_capacity(alloc, most_spots(call))?;
     if lock_subscription(call).is_none() {
         add_places(&mut spots, objects, table, call)?;
     }
+    add_spot(&mut spots, moment_spot(until))?;
     Ok(spots)
 }

@@ -1,7 +1,6 @@
 //! What the kernel keeps of a process beside its descriptors and its status.
-ghost use Rattle.std.specs.Prelude.{true, is_some, ◌≡◌, ◌+◌, ◌<◌, ◌^◌, ℕ, ⊤, IfOk, OnErr, IfSome, IsSome, Some, option_copied};
+ghost use Rattle.std.specs.Prelude.{true, is_some, ◌≡◌, ◌+◌, ◌<◌, ◌^◌, ℕ, IfOk, OnErr, IfSome, IsSome, Some, option_copied};
 ghost use Rattle.std.specs.FinMap as map;
-ghost use Rattle.kernel_parts.specs.Activity.{activity_at, wait_at, IsActivity};
 ghost use Rattle.kernel_parts.specs.Entries.{number_of};
 ghost use Rattle.kernel_parts.specs.OwnCalls.{new_thread, words_after, IsOwnDone};
 ghost use Rattle.kernel_parts.specs.Touching.{IsMade};
@@ -16,8 +15,6 @@ ghost use Rattle.kernel_model.specs.Families.ForkCalls.{can_fork, child_number, 
 ghost use Rattle.kernel_model.specs.Start.{canary_words, first_process};
 ghost use Rattle.kernel_model.specs.Waits.{thread_set, waiting};
 
-use crate::activity::Activity;
-use crate::numbers::next_number;
 use crate::start::{LAUNCH_PROCESS, single};
 use crate::touching::ensure_entry;
 use crate::waiting::deadline_at;
@@ -26,11 +23,9 @@ use abi_types::{
     Who,
 };
 use clock_random::random_bytes;
-use fd_table::FdTable;
 use guest_locks::stage_after;
 use lists::Bytes;
 use maps::NumMap;
-use poll_set::Surroundings;
 use right_rules::{refused, success, success_with};
 use std::alloc::{AllocError, Global};
 use std::marker::Model;
@@ -161,9 +156,12 @@ impl ProcessState {
         let Some(number) = self.new_thread(tid) else {
             return Ok(Answer::Reply(refused(Errno::Again)));
         };
-        ensure_entry(waits, pid, Tid(number))?;
         let key = u64::from(number);
         self.threads.insert(key, Thread::Runnable)?;
+        if let Err(failed) = ensure_entry(waits, pid, Tid(number)) {
+            self.threads.remove(key);
+            return Err(failed);
+        }
         self.counts.threads = number;
         Ok(Answer::Reply(success(key, 0)))
     }
@@ -331,36 +329,6 @@ impl ProcessState {
             } => Some((call, since, stage)),
             Thread::Runnable => None,
         }
-    }
-
-    /// What the threads do now, where the process has this table. Looks at each thread.
-    pub fn activity(&self, around: Surroundings<'_>, table: Option<&FdTable>) -> Activity
-        ensures { IsActivity (activity_at around.entry.constants.now around.entry.objects.now.kinds around.entry.channels.now around.entry.statuses.now around.entry.now (option_copied table.entry) self.now.threads) (λ _. ⊤) result }
-    {
-        let mut found = Activity::NoThread;
-        let mut last = None;
-        while let Some(tid) = next_number(&self.threads, last) {
-            if let Some(thread) = self.threads.get(tid) {
-                found = found.with(Activity::of_thread(around, table, thread));
-            }
-            last = Some(tid);
-        }
-        found
-    }
-
-    /// Until when the threads wait, whether they go on now or not. Those that run count for none. Looks at each thread.
-    pub fn waiting(&self) -> Activity
-        ensures { IsActivity (wait_at self.now.threads) (λ _. ⊤) result }
-    {
-        let mut found = Activity::NoThread;
-        let mut last = None;
-        while let Some(tid) = next_number(&self.threads, last) {
-            if let Some(thread) = self.threads.get(tid) {
-                found = found.with(Activity::wait_of(thread));
-            }
-            last = Some(tid);
-        }
-        found
     }
 
     /// The number of the last of so many objects that the process makes next. `None` where it can't make so many more.

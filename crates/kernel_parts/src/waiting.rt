@@ -16,8 +16,8 @@ use guest_locks::has_left;
 use poll_set::{Surroundings, is_due, lock_subscription, poll_deadline, poll_waits};
 use right_rules::refusal;
 
-/// By which moment a call is over that was made at the moment `since`, if there is such a moment that counts.
-pub fn deadline_of(constants: &Constants, call: &Call, since: u64) -> Option<u64>
+// By which moment a call is over that was made at the moment `since`, if there is such a moment that counts.
+fn deadline_of(constants: &Constants, call: &Call, since: u64) -> Option<u64>
     ensures { result ≡ model.deadline_of constants.now call.now since }
 {
     match call {

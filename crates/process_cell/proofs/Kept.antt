@@ -5,7 +5,7 @@ use Rattle.std.proofs.lemmas.Bool.Decides.{eqb_tells}
 use Rattle.std.specs.FinMap.{empty, get, get-empty, insert, retain_keys}
 use Rattle.std.specs.Ordering.{nat_cmp}
 use Rattle.maps.specs.Maps.{get-insert-same, get-insert-other, get-retain, same_around}
-use Rattle.kernel_cell.specs.Afterwards.{Threads}
+use Rattle.kernel_cell.specs.Results.{Threads}
 use Rattle.kernel_cell.specs.declared.results.Doing.TheVariants as doing
 use Rattle.process_cell.specs.Phases.{alone}
 

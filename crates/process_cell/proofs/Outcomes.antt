@@ -30,9 +30,9 @@ use Rattle.shared_history.specs.Entries.{head_of, entry_of, answered_call}
 use Rattle.shared_history.specs.Passes.{IsSeen, Later, Passing}
 use Rattle.kernel_cell.specs.Acting.{Became, Entered, HasForked, IsActed, IsForkedOn, IsNotReady, MayCome, by_number, child_of, going_on}
 use Rattle.kernel_cell.specs.Acting as Acting
-use Rattle.kernel_cell.specs.Afterwards.{act_of}
+use Rattle.kernel_cell.specs.Results.{act_of}
 use Rattle.kernel_cell.specs.Asking.{Answers, HasNoChild, IsWake}
-use Rattle.kernel_cell.specs.Afterwards.{Threads, with_made}
+use Rattle.kernel_cell.specs.Results.{Threads, with_made}
 use Rattle.kernel_cell.specs.declared.results.After.{After}
 use Rattle.kernel_cell.specs.declared.results.After.TheVariants as to
 use Rattle.kernel_cell.specs.declared.results.Asked.{Asked}

@@ -1,15 +1,17 @@
 -- The answer of a run, from the book that was closed.
 use Rattle.std.proofs.Common.{◌≡◌, ◌≢◌, ◌<◌, Bool, List, [], ◌∷◌, length, refl, sym, ap, subst, ◌∙◌, arith}
 use Rattle.abi_types.specs.declared.constants.Constants.{Constants}
+use Rattle.call_codec.specs.Bounded.{IsBounded}
 use Rattle.run_types.specs.declared.history.Entry.{Entry}
 use Rattle.run_types.specs.declared.launch.Launch.{Launch}
 use Rattle.kernel_model.specs.Ends.{NoneLive, SomeLive}
 use Rattle.kernel_model.specs.State.{State}
+use Rattle.kernel_model.specs.Waits.{HasDeadlines}
 use Rattle.kernel_model.specs.Wakes.{IsStalled}
 use Rattle.run_model.specs.Ends.{Stalled}
 use Rattle.run_model.specs.World.{World, world}
 use Rattle.run_model.proofs.Histories.{world_constants, world_none}
-use Rattle.run_model.proofs.Worlds.{clock_counts, first_clock}
+use Rattle.run_model.proofs.Worlds.{clock_counts, first_clock, world_has_deadlines}
 use Rattle.kernel_cell.specs.Cell.{IsBookOf}
 use Rattle.kernel_cell.specs.declared.cell.Book.{Book}
 use Rattle.process_cell.specs.Driven.{IsDriven, ComesOut}
@@ -47,6 +49,13 @@ same_world launch all book is =
     let constants : book.launch.constants ≡ (world launch book.history).constants =
     ap (λ (l : Launch). l.constants) is.launch_is ∙ sym (world_constants launch book.history) in
     λ i. (constants i, is.state i)
+
+-- each thread of it that waits does until its call's deadline
+pub book_has_deadlines : (launch : Launch) (all : Bool) (book : Book) → IsBounded launch → IsBookOf launch all book
+    → HasDeadlines book.launch.constants book.kernel
+book_has_deadlines launch all book bounded is =
+    subst (λ (x : Constants × State). HasDeadlines x.0 x.1) (sym (same_world launch all book is))
+    (world_has_deadlines launch book.history bounded.begins is.legal)
 
 -- the kernel of a book is stalled where its history is
 stalled_there : (launch : Launch) (all : Bool) (book : Book) → IsBookOf launch all book → IsStalled book.launch.constants book.kernel

@@ -41,7 +41,7 @@ use Rattle.shared_history.specs.Entries.{entry_of, head_of}
 use Rattle.shared_history.specs.Passes.{IsSeen, Later, Passing}
 use Rattle.kernel_cell.specs.Acting.{Became, Entered, HasStarted, IsActed, IsActedOn, IsAlone, IsChild, IsForked, IsForkedOn, KeepsBut, Looked, by_number, going_on}
 use Rattle.kernel_cell.specs.Asking.{Asks, AsksCall, HasNoChild}
-use Rattle.kernel_cell.specs.Afterwards.{Threads, with_made}
+use Rattle.kernel_cell.specs.Results.{Threads, with_made}
 use Rattle.kernel_cell.specs.declared.results.After.{After}
 use Rattle.kernel_cell.specs.declared.results.After.TheVariants as to
 use Rattle.kernel_cell.specs.declared.results.Asked.{Asked}

@@ -4,7 +4,7 @@ use Rattle.std.specs.FinMap.{code}
 use Rattle.std.specs.Coded.{Coded, code_by, coded×, coded_list, coded_ℕ}
 use Rattle.run_types.specs.contracts.history.Entry as entry
 use Rattle.run_types.specs.declared.history.Entry.{Entry}
-use Rattle.kernel_cell.specs.Afterwards.{Threads}
+use Rattle.kernel_cell.specs.Results.{Threads}
 use Rattle.process_cell.specs.Standing.{Standing}
 use Rattle.kernel_cell.specs.contracts.results.Doing as doing
 use Rattle.process_cell.specs.contracts.results.Phase as phase

@@ -3,7 +3,7 @@ use Rattle.std.specs.Prelude.{◌≡◌, ℕ, Bool, true, false, Some}
 use Rattle.std.specs.FinMap.{empty, get, insert, remove}
 use Rattle.abi_types.specs.declared.call.Call.{Call}
 use Rattle.abi_types.specs.declared.call.Call.TheVariants.{ThreadYield}
-use Rattle.kernel_cell.specs.Afterwards.{Threads}
+use Rattle.kernel_cell.specs.Results.{Threads}
 use Rattle.kernel_cell.specs.declared.results.After.{After}
 use Rattle.kernel_cell.specs.declared.results.After.TheVariants as to
 use Rattle.kernel_cell.specs.declared.results.Came.{Came}

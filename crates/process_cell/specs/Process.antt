@@ -5,7 +5,7 @@ use Rattle.abi_types.specs.declared.call.Call.TheVariants.{ProcFork}
 use Rattle.abi_types.specs.declared.thread.Thread.{Thread}
 use Rattle.abi_types.specs.declared.thread.Thread.TheVariants.{Runnable}
 use Rattle.shared_history.specs.Passes.{Passing}
-use Rattle.kernel_cell.specs.Afterwards.{Threads}
+use Rattle.kernel_cell.specs.Results.{Threads}
 use Rattle.kernel_cell.specs.declared.results.Body.{Body}
 use Rattle.kernel_cell.specs.declared.results.Doing.{Doing}
 use Rattle.kernel_cell.specs.declared.results.Doing.TheVariants as doing

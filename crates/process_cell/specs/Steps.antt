@@ -20,7 +20,7 @@ use Rattle.shared_history.specs.Entries.{entry_of, head_of}
 use Rattle.shared_history.specs.Passes.{Later}
 use Rattle.kernel_cell.specs.Acting.{EndsOthers, IsNotReady, MayCome, child_of}
 use Rattle.kernel_cell.specs.Asking.{Answers, IsWake}
-use Rattle.kernel_cell.specs.Afterwards.{Threads}
+use Rattle.kernel_cell.specs.Results.{Threads}
 use Rattle.kernel_cell.specs.declared.results.After.{After}
 use Rattle.kernel_cell.specs.declared.results.After.TheVariants as to
 use Rattle.kernel_cell.specs.declared.results.Asked.{Asked}

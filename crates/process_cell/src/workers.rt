@@ -3,6 +3,7 @@
 ghost use Rattle.std.specs.Prelude.{◌≡◌};
 ghost use Rattle.call_codec.specs.Bounded.{IsBounded};
 ghost use Rattle.kernel_cell.specs.Cell.{IsBookOf};
+ghost use Rattle.kernel_model.specs.Waits.{HasDeadlines};
 ghost use Rattle.process_cell.specs.Driven.{ComesOut, IsDriven};
 
 use crate::process::{Gate, Process, Worker};
@@ -341,7 +342,8 @@ fn run_named<J: Naming + Send + Sync, R: Threads + Wait + Sync, G: Gate + Sync>(
 }
 
 // How the run came out whose book this is.
-fn outcome(book: Book) -> Driven
+fn outcome(mut book: Book) -> Driven
+    requires { HasDeadlines book.launch.constants book.kernel }
     ensures { ComesOut book result }
 {
     if !book.kernel.any_live() {

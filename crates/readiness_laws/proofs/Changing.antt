@@ -68,9 +68,6 @@ threads_are_told changes told S T only same (on_moment until) h = only (on_momen
 first_of : (first second : Spot → Bool) (S T : State) → ChangesOnly first S T → ChangesOnly (either first second) S T
 first_of first second S T only spot h = only spot (either_false (first spot) (second spot) h).0
 
-second_of : (first second : Spot → Bool) (S T : State) → ChangesOnly second S T → ChangesOnly (either first second) S T
-second_of first second S T only spot h = only spot (either_false (first spot) (second spot) h).1
-
 -- ---- time
 
 -- a moment that comes neither way is where it was

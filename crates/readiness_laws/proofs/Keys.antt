@@ -1,16 +1,13 @@
 -- The numbers under which threads have their entries.
 --     key_of, key_small      each number is that of a thread
 --     key_same, key_parts      no two threads have one
---     key_within, key_without      the numbers of a process's threads lie between that of its thread 0 and that of the next process's
 --     key_behind, key_before      they go in the order of their processes' numbers, and then of their own
-use Rattle.std.proofs.Common.{◌≡◌, ◌≢◌, ◌⊎◌, ℕ, ◌+◌, ◌/◌, ◌%◌, ◌^◌, ◌<◌, ◌≤◌, ◌&&◌, Bool, true, false, inl, inr, refl, lit<, ap, ◌∙◌, arith}
-use Rattle.std.specs.Prelude.{nat_le, nat_lt}
-use Rattle.std.proofs.lemmas.Bool.{le-leb, leb-true, lt-ltb, ltb-false, ltb-true}
-use Rattle.kernel_model.proofs.Tests.{not_true}
+use Rattle.std.proofs.Common.{◌≡◌, ◌⊎◌, ℕ, ◌/◌, ◌%◌, ◌^◌, ◌<◌, ◌≤◌, true, false, inl, inr, refl, lit<, arith}
+use Rattle.std.specs.Prelude.{nat_lt}
+use Rattle.std.proofs.lemmas.Bool.{ltb-false, ltb-true}
 use Rattle.std.proofs.lemmas.Nat.{div-add-mod'}
 use Rattle.std.proofs.Math.Nat.{mod-lt}
 use Rattle.kernel_parts.specs.Keys.{key}
-use Rattle.wait_set.specs.Next.{is_between}
 
 pub key_of : (k : ℕ) → key (k / 2 ^ 32) (k % 2 ^ 32) ≡ k
 key_of k = div-add-mod' k (2 ^ 32)
@@ -37,22 +34,3 @@ key_before p t q u small other before =
           let not_less : q ≤ p = ltb-false p q more in
           inr (omega (arith, small, other, before, not_less), omega (arith, small, other, before, not_less))
     ] refl
-
-pub key_within : (p t : ℕ) → t < 2 ^ 32 → is_between (key p 0) (key (p + 1) 0) (key p t) ≡ true
-key_within p t small =
-    ap (λ b. b && nat_lt (key p t) (key (p + 1) 0)) (le-leb (key p 0) (key p t) (omega (arith)))
-    ∙ lt-ltb (key p t) (key (p + 1) 0) (omega (arith, small))
-
-pub key_without : (p q t : ℕ) → q ≢ p → t < 2 ^ 32 → is_between (key p 0) (key (p + 1) 0) (key q t) ≡ false
-key_without p q t apart small =
-    elim (is_between (key p 0) (key (p + 1) 0) (key q t)) as (λ b. is_between (key p 0) (key (p + 1) 0) (key q t) ≡ b → b ≡ false) [
-      | true ↦ λ is.
-          let both = parts (nat_le (key p 0) (key q t)) (nat_lt (key q t) (key (p + 1) 0)) is in
-          let above = leb-true (key p 0) (key q t) both.0 in
-          let below = ltb-true (key q t) (key (p + 1) 0) both.1 in
-          absurd (apart (omega (arith, small, above, below)))
-      | false ↦ λ _. refl
-    ] refl where
-      parts : (a b : Bool) → (a && b) ≡ true → (a ≡ true) × (b ≡ true)
-      parts true b h = (refl, h)
-      parts false b h = absurd (not_true h)

@@ -17,10 +17,9 @@ pub mod Alike
 pub mod WatchedThreads
 pub mod WatchedSets
 pub mod WatchedTimes
-pub mod Settled
+pub mod Tested
 pub mod NextReady
 pub mod WatchedTables
 pub mod Noted
 pub mod RowsAlike
-pub mod Covering
-pub mod Further
+pub mod Running

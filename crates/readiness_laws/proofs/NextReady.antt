@@ -1,10 +1,8 @@
 -- The next thread that is ready, and the least deadline, by the entries.
---     none_left      where as many threads as none are left to be tested
---     none_left_marked, marked_ready      where none is left, a thread is marked exactly where it is ready
---     next_is_ready      the next marked thread is the next ready one
---     none_is_ready      where there is none after none, none is ready
+--     marks_are_exact, mark_tells      an entry that isn't left is marked by whether its thread is ready
+--     up_ready, next_is_ready      the next entry of a thread that waits and is ready is that of the next ready thread
 --     next_moment_is_least      the first moment at which somebody stands is the least deadline
-use Rattle.std.proofs.Common.{◌≡◌, ℕ, ◌/◌, ◌%◌, ◌^◌, ◌<◌, ◌≤◌, Bool, true, false, cond, inl, inr, Option, None, Some, IsSome, refl, sym, ap, subst, ◌∙◌, arith}
+use Rattle.std.proofs.Common.{◌≡◌, ℕ, ◌/◌, ◌%◌, ◌^◌, ◌<◌, ◌≤◌, ◌&&◌, ◌||◌, not, Bool, true, false, cond, inl, inr, Option, None, Some, IsSome, refl, sym, ap, subst, ◌∙◌, arith}
 use Rattle.std.proofs.lemmas.Bool.{eq-eqb, eqb-true, lt-ltb, ltb-false, ltb-true}
 use Rattle.std.specs.Prelude.{nat_lt}
 use Rattle.std.specs.Option.{option_map}
@@ -17,19 +15,18 @@ use Rattle.kernel_model.specs.Deadlines.{least_deadline}
 use Rattle.kernel_model.specs.State.{State, thread_of}
 use Rattle.kernel_model.specs.WaitLaws.{IsLeastDeadline, WaitsUntil}
 use Rattle.kernel_model.specs.Waits.{HasDeadline, HasDeadlines}
-use Rattle.kernel_model.specs.Wakes.{is_ready, is_ready_as, NoneReady}
+use Rattle.kernel_model.specs.Wakes.{is_ready, is_ready_as}
 use Rattle.kernel_model.proofs.Deadlines.{soon_is_soon}
 use Rattle.kernel_model.proofs.Readiness.{least_is_least}
-use Rattle.kernel_model.proofs.Tests.{none_is_no, not_true}
+use Rattle.kernel_model.proofs.Tests.{none_is_no, not_true, same_some}
 use Rattle.kernel_parts.specs.Keys.{key}
 use Rattle.wait_set.specs.declared.spot.Spot.TheVariants as spot
 use Rattle.wait_set.specs.declared.waiting.Waiting.{Waiting}
 use Rattle.wait_set.specs.Next.{IsNext, is_after}
-use Rattle.wait_set.specs.Waits as waits
-use Rattle.wait_set.specs.Waits.{WaitMap, counted, flag, is_awaited, is_left, lists}
+use Rattle.wait_set.specs.Waits.{IsExact, WaitMap, counted, is_awaited, is_up, lists, mark_of}
 use Rattle.readiness_laws.specs.NextReady.{ComesBehind, IsNextReady, IsOrBehind, ThreadName, thread_at}
-use Rattle.readiness_laws.specs.WatchLaws.{AreMarked, IsSmall, NoneLeft, NoneSpread, number_of}
-use Rattle.readiness_laws.specs.Watched.{AreEntries, HasEntry, IsEntry, IsWatched, is_moment, looked_at, until_in}
+use Rattle.readiness_laws.specs.WatchLaws.{IsSmall, NoneSpread, TellsReady, number_of}
+use Rattle.readiness_laws.specs.Watched.{AreEntries, HasEntry, IsEntry, IsWatched, is_moment, is_running, looked_at, until_in}
 use Rattle.readiness_laws.proofs.Alike.{ready_by_parts}
 use Rattle.readiness_laws.proofs.Keys.{key_before, key_behind, key_of, key_same, key_small}
 use Rattle.readiness_laws.proofs.Watched.{until_counts}
@@ -38,31 +35,57 @@ weighs_none : (b : Bool) (n : ℕ) → n ≡ cond b 1 0 → n ≡ 0 → b ≡ fa
 weighs_none true n is none = absurd (omega (arith, is, none))
 weighs_none false n is none = refl
 
-pub none_left : (W : WaitMap) → counted is_left W ≡ 0 → NoneLeft W
-none_left W none k w there = weighs_none w.left (cond w.left 1 0) refl (total-zero (λ s. cond (is_left s) 1 0) W k w none there)
-
 -- ---- marks
 
 ready_there : (constants : Constants) (S : State) (p t : ℕ) (o : Option Thread) → is_ready_as constants S p t o ≡ true → IsSome o
 ready_there constants S p t None ready = absurd (not_true ready)
 ready_there constants S p t (Some thread) ready = refl
 
--- where none is left to be tested each is marked by whether its thread is ready
-pub none_left_marked : (constants : Constants) (S : State) (W : WaitMap) → IsWatched S W → HasDeadlines constants S → NoneLeft W → AreMarked constants S W
-none_left_marked constants S W watched deadlines settled p t w small there =
-    let entry : IsEntry (looked_at S) p t w = subst (HasEntry (looked_at S) p t) there (watched.entries p t small) in
-    entry.marks constants (settled (key p t) w there) (deadlines p t) ∙ ready_by_parts constants S p t (watched.may p t) (deadlines p t)
+-- each that isn't left is marked by whether its thread is ready
+pub marks_are_exact : (constants : Constants) (S : State) (W : WaitMap) → IsWatched S W → HasDeadlines constants S → (ready : ℕ → Bool)
+    → TellsReady constants S W ready → IsExact ready W
+marks_are_exact constants S W watched deadlines ready tells k w there done =
+    let p = k / 2 ^ 32 in
+    let t = k % 2 ^ 32 in
+    let at : get W (key p t) ≡ Some w = ap (get W) (key_of k) ∙ there in
+    let entry : IsEntry (looked_at S) p t w = subst (HasEntry (looked_at S) p t) at (watched.entries p t (key_small k)) in
+    entry.marks constants done (deadlines p t) ∙ ready_by_parts constants S p t (watched.may p t) (deadlines p t)
+    ∙ sym (tells p t w (key_small k) at) ∙ ap ready (key_of k)
 
-module _ (constants : Constants) (S : State) (W : WaitMap) (watched : IsWatched S W) (exact : AreMarked constants S W) where
-  entry_marked : (p t : ℕ) → t < 2 ^ 32 → (o : Option Waiting) → get W (key p t) ≡ o → HasEntry (looked_at S) p t o → flag waits.is_ready o ≡ is_ready constants S p t
-  entry_marked p t small None is none = sym (ap (is_ready_as constants S p t) none)
-  entry_marked p t small (Some w) is entry = exact p t w small is
+marked_by : (left runs ready b : Bool) → cond (left || runs) None (Some ready) ≡ Some b → (left ≡ false) × (ready ≡ b)
+marked_by true runs ready b is = absurd (none_is_no b is)
+marked_by false true ready b is = absurd (none_is_no b is)
+marked_by false false ready b is = (refl, same_some ready b is)
 
-  pub marked_ready : (p t : ℕ) → t < 2 ^ 32 → flag waits.is_ready (get W (key p t)) ≡ is_ready constants S p t
-  marked_ready p t small = entry_marked p t small (get W (key p t)) refl (watched.entries p t small)
+-- a thread that waits and isn't left is as ready as it is marked
+pub mark_tells : (constants : Constants) (S : State) (W : WaitMap) → IsWatched S W → (p t : ℕ) → t < 2 ^ 32 → HasDeadline constants (thread_of S p t) → (b : Bool)
+    → mark_of (get W (key p t)) ≡ Some b → is_ready constants S p t ≡ b
+mark_tells constants S W watched p t small deadline b is = by_entry (get W (key p t)) (watched.entries p t small) is where
+  by_entry : (o : Option Waiting) → HasEntry (looked_at S) p t o → mark_of o ≡ Some b → is_ready constants S p t ≡ b
+  by_entry None none marked = absurd (none_is_no b marked)
+  by_entry (Some w) entry marked =
+      let both = marked_by w.left w.runs w.ready b marked in
+      sym (entry.marks constants both.0 deadline ∙ ready_by_parts constants S p t (watched.may p t) deadline) ∙ both.1
+
+-- whoever is ready doesn't run
+waits_up : (constants : Constants) (S : State) (p t : ℕ) (o : Option Thread) → (not (is_running o) && is_ready_as constants S p t o) ≡ is_ready_as constants S p t o
+waits_up constants S p t None = refl
+waits_up constants S p t (Some Runnable) = refl
+waits_up constants S p t (Some (Waits call since until stage)) = refl
+
+module _ (constants : Constants) (S : State) (W : WaitMap) (watched : IsWatched S W) (ready : ℕ → Bool) (tells : TellsReady constants S W ready) where
+  entry_up : (p t : ℕ) → t < 2 ^ 32 → (o : Option Waiting) → get W (key p t) ≡ o → HasEntry (looked_at S) p t o
+      → is_up ready o (key p t) ≡ is_ready constants S p t
+  entry_up p t small None is none = sym (ap (is_ready_as constants S p t) none)
+  entry_up p t small (Some w) is entry =
+      ap (λ b. not b && ready (key p t)) entry.runs ∙ ap (λ b. not (is_running (thread_of S p t)) && b) (tells p t w small is)
+      ∙ waits_up constants S p t (thread_of S p t)
+
+  pub up_ready : (p t : ℕ) → t < 2 ^ 32 → is_up ready (get W (key p t)) (key p t) ≡ is_ready constants S p t
+  up_ready p t small = entry_up p t small (get W (key p t)) refl (watched.entries p t small)
 
   ready_small : (p t : ℕ) → is_ready constants S p t ≡ true → t < 2 ^ 32
-  ready_small p t ready = watched.small p t (ready_there constants S p t (thread_of S p t) ready)
+  ready_small p t is = watched.small p t (ready_there constants S p t (thread_of S p t) is)
 
   -- ---- the next ready thread
 
@@ -75,12 +98,12 @@ module _ (constants : Constants) (S : State) (W : WaitMap) (watched : IsWatched 
   after_behind (Some other) known p t small later = key_before other.0 other.1 p t known small (ltb-true (key other.0 other.1) (key p t) later)
 
   module _ (after : Option ThreadName) (known : IsSmall after) where
-    none_next : IsNext (λ k. flag waits.is_ready (get W k)) (number_of after) None → IsNextReady constants S after None
+    none_next : IsNext (λ k. is_up ready (get W k) k) (number_of after) None → IsNextReady constants S after None
     none_next none p t behind =
         elim (is_ready constants S p t) as (λ b. is_ready constants S p t ≡ b → b ≡ false) [
-          | true ↦ λ ready.
-              let small = ready_small p t ready in
-              absurd (not_true (sym (none (key p t) (behind_after after known p t small behind)) ∙ marked_ready p t small ∙ ready))
+          | true ↦ λ is.
+              let small = ready_small p t is in
+              absurd (not_true (sym (none (key p t) (behind_after after known p t small behind)) ∙ up_ready p t small ∙ is))
           | false ↦ λ _. refl
         ] refl
 
@@ -91,23 +114,20 @@ module _ (constants : Constants) (S : State) (W : WaitMap) (watched : IsWatched 
           | false ↦ λ more. inl (key_same p t q u small other (let not_less = ltb-false (key p t) (key q u) more in omega (arith, before, not_less)))
         ] refl
 
-    one_next : (k p t : ℕ) → t < 2 ^ 32 → key p t ≡ k → IsNext (λ j. flag waits.is_ready (get W j)) (number_of after) (Some k) → IsNextReady constants S after (Some (p, t))
+    one_next : (k p t : ℕ) → t < 2 ^ 32 → key p t ≡ k → IsNext (λ j. is_up ready (get W j) j) (number_of after) (Some k) → IsNextReady constants S after (Some (p, t))
     one_next k p t small is next = (
       after_behind after known p t small (ap (is_after (number_of after)) is ∙ next.0),
-      sym (marked_ready p t small) ∙ ap (λ j. flag waits.is_ready (get W j)) is ∙ next.1,
-      λ q u behind ready.
-          let below = ready_small q u ready in
-          let least = next.2 (key q u) (behind_after after known q u below behind) (marked_ready q u below ∙ ready) in
+      sym (up_ready p t small) ∙ ap (λ j. is_up ready (get W j) j) is ∙ next.1,
+      λ q u behind up.
+          let below = ready_small q u up in
+          let least = next.2 (key q u) (behind_after after known q u below behind) (up_ready q u below ∙ up) in
           one_of p t q u small below (subst (λ j. j ≤ key q u) (sym is) least),
     )
 
-    pub next_is_ready : (result : Option ℕ) → IsNext (λ k. flag waits.is_ready (get W k)) (number_of after) result
+    pub next_is_ready : (result : Option ℕ) → IsNext (λ k. is_up ready (get W k) k) (number_of after) result
         → IsNextReady constants S after (option_map thread_at result)
     next_is_ready None next = none_next next
     next_is_ready (Some k) next = one_next k (k / 2 ^ 32) (k % 2 ^ 32) (key_small k) (key_of k) next
-
-pub none_is_ready : (constants : Constants) (S : State) → IsNextReady constants S None None → NoneReady constants S
-none_is_ready constants S none p t = none p t tt
 
 -- ---- the least deadline
 

@@ -1,7 +1,8 @@
 -- Spots as they are noted in an entry.
 --     standing_entry      an entry whose list covers the thread's spots
---     noted_covers, covers_by_parts      lists that do
-use Rattle.std.proofs.Common.{◌≡◌, ℕ, ◌||◌, Bool, true, false, List, [], ◌∷◌, ◌++◌, Option, None, Some, refl, sym, ap, ◌∙◌}
+--     stood_entry, stood_again      one that was given such a list, or stands everywhere; the same of one that was as it is to be
+--     covers_by_parts      lists that do
+use Rattle.std.proofs.Common.{◌≡◌, ℕ, ◌||◌, Bool, true, false, inl, inr, List, [], ◌∷◌, ◌++◌, Option, None, Some, IsSome, refl, sym, ap, subst, ◌∙◌}
 use Rattle.std.specs.Prelude.{⊤, nat_eq}
 use Rattle.std.specs.List.{AllByRecursion}
 use Rattle.std.proofs.lemmas.Bool.{eq-eqb}
@@ -17,11 +18,12 @@ use Rattle.wait_set.specs.declared.spot.Spot as wait
 use Rattle.wait_set.specs.declared.spot.Spot.TheVariants as place
 use Rattle.wait_set.specs.declared.waiting.Waiting.{Waiting}
 use Rattle.wait_set.specs.Spots.{listed, same_spot}
-use Rattle.wait_set.specs.Waits.{lists}
+use Rattle.wait_set.specs.Waits.{IsStood, lists, spread_at, stood}
 use Rattle.readiness_laws.specs.Spots.{Spot, call_spots, moment_spot, on_channel, on_end, on_flags, on_moment, on_open, on_table, on_thread, spots, waiting_spots}
-use Rattle.readiness_laws.specs.Watched.{Covers, IsEntry, StandsAt, is_moment, looked_at, noted, noted_before, until_in}
+use Rattle.readiness_laws.specs.Watched.{Covers, IsEntry, StandsAt, is_moment, is_running, looked_at, noted, noted_before, until_in}
 use Rattle.readiness_laws.proofs.Alike.{any_call, spots_by_parts}
 use Rattle.readiness_laws.proofs.LookedAt.{all_lead}
+use Rattle.readiness_laws.proofs.Watched.{all_everywhere}
 
 -- ---- what is noted is listed
 
@@ -31,18 +33,18 @@ IsListed those (on_channel c) = listed (place.Channel c) those ≡ true
 IsListed those (on_end q) = listed (place.Ended q) those ≡ true
 IsListed those spot = ⊤
 
-pub later : (b c : Bool) → c ≡ true → (b || c) ≡ true
+later : (b c : Bool) → c ≡ true → (b || c) ≡ true
 later true c h = refl
 later false c h = h
 
-pub sooner : (b c : Bool) → b ≡ true → (b || c) ≡ true
+sooner : (b c : Bool) → b ≡ true → (b || c) ≡ true
 sooner true c h = refl
 sooner false c h = absurd (not_true h)
 
 same_number : (n : ℕ) → nat_eq n n ≡ true
 same_number n = eq-eqb n n refl
 
-pub one_more : (x : wait.Spot) (spot : Spot) (those : List wait.Spot) → listed x those ≡ true → listed x (noted_before spot those) ≡ true
+one_more : (x : wait.Spot) (spot : Spot) (those : List wait.Spot) → listed x those ≡ true → listed x (noted_before spot those) ≡ true
 one_more x (on_channel c) those at = later (same_spot x (place.Channel c)) (listed x those) at
 one_more x (on_end q) those at = later (same_spot x (place.Ended q)) (listed x those) at
 one_more x (on_moment m) those at = later (same_spot x (place.Moment m)) (listed x those) at
@@ -91,7 +93,7 @@ abbrev IsNoMoment : Spot → Type 0
 IsNoMoment (on_moment m) = ⊥
 IsNoMoment spot = ⊤
 
-pub no_moment : (m : ℕ) (spots : List Spot) → AllByRecursion IsNoMoment spots → listed (place.Moment m) (noted spots) ≡ false
+no_moment : (m : ℕ) (spots : List Spot) → AllByRecursion IsNoMoment spots → listed (place.Moment m) (noted spots) ≡ false
 no_moment m [] all = refl
 no_moment m (on_channel c ∷ rest) all = no_moment m rest all.1
 no_moment m (on_end q ∷ rest) all = no_moment m rest all.1
@@ -115,11 +117,14 @@ noted_until S p m (Some (Waits call since until stage)) =
 
 -- an entry whose list covers the thread's spots
 pub standing_entry : (S : State) (p t : ℕ) (w : Waiting) → Covers S p t w.spots
-    → ((constants : Constants) → w.left ≡ false → HasDeadline constants (thread_of S p t) → w.ready ≡ is_ready constants S p t) → IsEntry S p t w
-standing_entry S p t w covers marks = record {
+    → ((constants : Constants) → w.left ≡ false → HasDeadline constants (thread_of S p t) → w.ready ≡ is_ready constants S p t)
+    → IsSome (thread_of S p t) → w.runs ≡ is_running (thread_of S p t) → IsEntry S p t w
+standing_entry S p t w covers marks there runs = record {
   moments = λ _ m. covers.moments m ∙ noted_until S p m (thread_of S p t);
   places = all_lead (IsListed (noted (spots S p t))) (StandsAt w) (λ spot at. listed_stands w spot (covered spot at)) (spots S p t) (all_listed (spots S p t));
   marks = marks;
+  there = there;
+  runs = runs;
 } where
   covered : (spot : Spot) → IsListed (noted (spots S p t)) spot → IsListed w.spots spot
   covered (on_channel c) at = covers.all (place.Channel c) at
@@ -130,8 +135,24 @@ standing_entry S p t w covers marks = record {
   covered (on_flags o) at = tt
   covered (on_thread q u) at = tt
 
-pub noted_covers : (S : State) (p t : ℕ) (those : List wait.Spot) → those ≡ noted (spots S p t) → Covers S p t those
-noted_covers S p t those is = record { all = λ x at. ap (listed x) is ∙ at; moments = λ m. ap (listed (place.Moment m)) is }
+-- The entry was given a list that covers the thread's spots, or it stands everywhere. Its mark is as it was.
+pub stood_entry : (S : State) (p t : ℕ) (those : List wait.Spot) (v w : Waiting) → Covers S p t those → IsStood those v w
+    → ((constants : Constants) → v.left ≡ false → HasDeadline constants (thread_of S p t) → v.ready ≡ is_ready constants S p t)
+    → IsSome (thread_of S p t) → v.runs ≡ is_running (thread_of S p t) → IsEntry S p t w
+stood_entry S p t those v w covers (inl is) marks there runs =
+    subst (IsEntry S p t) (sym is) (standing_entry S p t (stood those v) covers marks there runs)
+stood_entry S p t those v w covers (inr (some, is)) marks there runs =
+    subst (IsEntry S p t) (sym is) (record {
+      moments = λ only m. absurd (not_true (sym only));
+      places = all_everywhere (spread_at some v) refl (spots S p t);
+      marks = marks;
+      there = there;
+      runs = runs;
+    })
+
+-- the entry was as it is to be before
+pub stood_again : (S : State) (p t : ℕ) (those : List wait.Spot) (v w : Waiting) → Covers S p t those → IsStood those v w → IsEntry S p t v → IsEntry S p t w
+stood_again S p t those v w covers stands entry = stood_entry S p t those v w covers stands entry.marks entry.there entry.runs
 
 pub covers_by_parts : (S : State) (p t : ℕ) (those : List wait.Spot) → Covers S p t those → Covers (looked_at S) p t those
 covers_by_parts S p t those covers = record {

@@ -1,9 +1,10 @@
 -- Entries that go with a state go with the next one, where a change leaves to be tested whomever it concerns.
---     idle_until, idle_unready, idle_may, idle_entry      of a thread that doesn't wait
+--     idle_until, idle_unready, idle_may, idle_entry      of a thread that doesn't wait, or runs
+--     runs_or_waits      a thread that doesn't wait runs
 --     all_everywhere      one that stands everywhere stands at each spot
 --     until_counts      until when a thread waits counts, if it waits until its call's deadline
 --     changed_entries, changed_is_watched      after a change
---     touched_is_watched, released_is_watched      after something has ended
+--     touched_is_watched      after something has ended
 use Rattle.std.proofs.Common.{◌≡◌, ◌⊎◌, ℕ, ◌^◌, ◌<◌, ◌&&◌, ◌||◌, Bool, true, false, inl, inr, List, [], ◌∷◌, ◌++◌, Option, None, Some, IsSome, refl, sym, ap, subst, ◌∙◌}
 use Rattle.std.proofs.lemmas.Bool.{eq-eqb}
 use Rattle.std.specs.Prelude.{if◌then◌else◌, nat_lt}
@@ -17,11 +18,10 @@ use Rattle.abi_types.specs.declared.thread.Thread.{Thread}
 use Rattle.abi_types.specs.declared.thread.Thread.TheVariants.{Runnable, Waits}
 use Rattle.kernel_model.specs.Calls.{meaning_of}
 use Rattle.kernel_model.specs.Deadlines.{is_due, soon}
-use Rattle.kernel_model.specs.State.{State, Table, Tree, thread_of}
+use Rattle.kernel_model.specs.State.{State, Table, thread_of}
 use Rattle.kernel_model.specs.Waits.{has_left, may_wait, HasDeadline, MayWait}
 use Rattle.kernel_model.specs.Wakes.{is_ready, is_ready_as}
 use Rattle.kernel_model.proofs.Tests.{and_false, none_is_no, not_true, or_false, or_true}
-use Rattle.kernel_parts.specs.Released.{state_by}
 use Rattle.kernel_parts.specs.Touched.{IsKept, IsTouched}
 use Rattle.kernel_parts.specs.Keys.{key}
 use Rattle.wait_set.specs.declared.spot.Spot.TheVariants as spot
@@ -31,7 +31,7 @@ use Rattle.wait_set.specs.Spots.{listed}
 use Rattle.wait_set.specs.Waits.{WaitMap, lists, stands}
 use Rattle.readiness_laws.specs.PlaceLaws.{row_in}
 use Rattle.readiness_laws.specs.Spots.{Look, Spot, AreSame, IsSame, bare, call_spots, looks_of, moment_spot, never_waits, on_channel, on_end, on_flags, on_moment, on_open, on_table, on_thread, spots, waiting_spots}
-use Rattle.readiness_laws.specs.Watched.{AreEntries, HasEntry, IsEntry, IsWatched, StandsAt, is_moment, is_waiting, looked_at, until_in}
+use Rattle.readiness_laws.specs.Watched.{AreEntries, HasEntry, IsEntry, IsWatched, StandsAt, is_moment, is_running, is_waiting, looked_at, until_in}
 use Rattle.readiness_laws.specs.WatchedChanges.{Changes, IsChanged, IsLeft, RowsStay, ThreadChange, all_stay, ends, idles, stays, told}
 use Rattle.readiness_laws.proofs.Locality.{readiness_is_local}
 use Rattle.readiness_laws.proofs.LookedAt.{all_lead, same_call, stay_call}
@@ -65,12 +65,20 @@ idle_may None idle = tt
 idle_may (Some Runnable) idle = tt
 idle_may (Some (Waits call since until stage)) idle = absurd (not_true (sym idle))
 
-pub idle_entry : (S : State) (p t : ℕ) (w : Waiting) → is_waiting (thread_of S p t) ≡ false
-    → (w.everywhere ≡ false → (m : ℕ) → lists (spot.Moment m) w ≡ false) → (Constants → w.left ≡ false → w.ready ≡ false) → IsEntry S p t w
-idle_entry S p t w idle moments marks = record {
-  moments = λ only m. moments only m ∙ ap (is_moment m) (sym (idle_until (thread_of S p t) idle));
-  places = (tt, idle_places S p w (thread_of S p t) idle);
-  marks = λ constants done deadline. marks constants done ∙ sym (idle_unready constants S p t (thread_of S p t) idle);
+pub runs_or_waits : (o : Option Thread) → IsSome o → is_waiting o ≡ false → o ≡ Some Runnable
+runs_or_waits None some idle = absurd (not_true some)
+runs_or_waits (Some Runnable) some idle = refl
+runs_or_waits (Some (Waits call since until stage)) some idle = absurd (not_true (sym idle))
+
+-- of one that runs
+pub idle_entry : (S : State) (p t : ℕ) (w : Waiting) → thread_of S p t ≡ Some Runnable
+    → (w.everywhere ≡ false → (m : ℕ) → lists (spot.Moment m) w ≡ false) → (Constants → w.left ≡ false → w.ready ≡ false) → w.runs ≡ true → IsEntry S p t w
+idle_entry S p t w is moments marks runs = record {
+  moments = λ only m. moments only m ∙ ap (is_moment m) (sym (idle_until (thread_of S p t) (ap is_waiting is)));
+  places = (tt, idle_places S p w (thread_of S p t) (ap is_waiting is));
+  marks = λ constants done deadline. marks constants done ∙ sym (idle_unready constants S p t (thread_of S p t) (ap is_waiting is));
+  there = subst IsSome (sym is) refl;
+  runs = runs ∙ sym (ap is_running is);
 }
 
 -- ---- until when a thread waits
@@ -156,10 +164,15 @@ module _ (S T : State) (V W : WaitMap) (before : AreEntries S V) (change : Chang
     listed_as : w.everywhere ≡ false → (m : ℕ) → lists (spot.Moment m) w ≡ is_moment m (until_in (thread_of S p t))
     listed_as only m = ap (listed (spot.Moment m)) kept.spots ∙ was.moments (kept.everywhere only) m
 
-    idles_on : is_waiting (thread_of S p t) ≡ false → is_waiting (thread_of T p t) ≡ false → IsEntry T p t w
+    -- it tells whether the thread ran
+    ran : w.runs ≡ is_running (thread_of S p t)
+    ran = kept.runs ∙ was.runs
+
+    idles_on : is_waiting (thread_of S p t) ≡ false → thread_of T p t ≡ Some Runnable → IsEntry T p t w
     idles_on idle now =
         idle_entry T p t w now (λ only m. listed_as only m ∙ ap (is_moment m) (idle_until (thread_of S p t) idle))
         (λ constants done. mark constants done (idle_deadline constants (thread_of S p t) idle) ∙ idle_unready constants S p t (thread_of S p t) idle)
+        (ran ∙ ap is_running (runs_or_waits (thread_of S p t) was.there idle))
 
     module _ (call : Call) (since later : ℕ) (until : Option ℕ) (stage after : Stage) (waited : thread_of S p t ≡ Some (Waits call since until stage))
         (waits : thread_of T p t ≡ Some (Waits call later until after)) where
@@ -257,12 +270,14 @@ module _ (S T : State) (V W : WaitMap) (before : AreEntries S V) (change : Chang
           | inl left ↦ absurd (not_true (sym done ∙ left))
           | inr thread ↦ as_ready (rows_unless (ap (λ b. w.everywhere && b) done ∙ and_false w.everywhere)) thread constants done deadline
         ];
+        there = subst IsSome (sym waits) refl;
+        runs = ran ∙ ap is_running waited ∙ sym (ap is_running waits);
       }
 
     -- the thread does what it did
     stays_so : (o : Option Thread) → thread_of S p t ≡ o → thread_of T p t ≡ thread_of S p t → IsEntry T p t w
-    stays_so None is same = idles_on (ap is_waiting is) (ap is_waiting (same ∙ is))
-    stays_so (Some Runnable) is same = idles_on (ap is_waiting is) (ap is_waiting (same ∙ is))
+    stays_so None is same = absurd (not_true (subst IsSome is was.there))
+    stays_so (Some Runnable) is same = idles_on (ap is_waiting is) (same ∙ is)
     stays_so (Some (Waits call since until stage)) is same = waits_on call since since until stage stage is (same ∙ is) (inr same)
 
     has_come : ThreadChange (thread_of S p t) (thread_of T p t) (get W (key p t)) → IsEntry T p t w
@@ -340,18 +355,3 @@ module _ (S T : State) (V W : WaitMap) (before : IsWatched S V) (touched : IsTou
 
   pub touched_is_watched : IsWatched T W
   touched_is_watched = changed_is_watched S T V W before touched_changes
-
--- the same by the parts that a release is given, whatever the time is
-pub released_is_watched : (S T : State) (V W : WaitMap) (before after : Tree) → IsWatched S V
-    → IsTouched (state_by S.tables S.processes S.statuses S.opens S.chans before) (state_by T.tables T.processes T.statuses T.opens T.chans after) V W
-    → T.clock ≡ S.clock → IsWatched T W
-released_is_watched S T V W before after watched touched clock = touched_is_watched S T V W watched (record {
-  kept = touched.kept;
-  gone = touched.gone;
-  stay = λ p t w small there. let same = touched.stay p t w small there in record { thread = same.thread; table = same.table };
-  channels = touched.channels;
-  ends = touched.ends;
-  rows = touched.rows;
-  threads = touched.threads;
-  clock = clock;
-})

@@ -2,24 +2,19 @@
 --     kept_self, kept_follows      nothing, and one after another
 --     both_self, mapped_kept, touched_kept, spread_kept      of one entry
 --     kept_entry, kept_none      an entry was there, or none was
---     touch_keeps, touch_leaves, touch_thread_keeps, spread_keeps, spread_leaves      threads are left to be tested, and are spread
---     left_on, spread_on      who is left to be tested stays so
+--     touch_keeps, spread_keeps      threads are left to be tested, and are spread
 --     changed_entry      an entry of a set that was changed
 --     not_touched      one that isn't left to be tested wasn't among those that were touched
-use Rattle.std.proofs.Common.{◌≡◌, ℕ, ◌^◌, ◌<◌, ◌&&◌, Bool, true, false, cond, Option, None, Some, refl, sym, ap, subst, ◌∙◌}
-use Rattle.std.proofs.lemmas.Bool.{eq-eqb}
-use Rattle.std.specs.Prelude.{nat_eq}
+use Rattle.std.proofs.Common.{◌≡◌, ℕ, Bool, true, false, cond, Option, None, Some, refl, sym, ap, subst, ◌∙◌}
 use Rattle.std.specs.Option.{option_map}
 use Rattle.std.specs.FinMap.{get}
 use Rattle.maps.specs.Closure.{get-changed}
 use Rattle.kernel_model.proofs.Tests.{none_is_no, not_true, same_some}
 use Rattle.kernel_parts.specs.Touched.{IsKept}
-use Rattle.kernel_parts.specs.Keys.{key}
 use Rattle.kernel_parts.proofs.Touched.{is_kept_follows, is_kept_self}
-use Rattle.wait_set.specs.declared.spot.Spot.{Spot}
 use Rattle.wait_set.specs.declared.waiting.Waiting.{Waiting}
-use Rattle.wait_set.specs.Waits.{WaitMap, so_changed, spread_out, stands, touched, where_so}
-use Rattle.readiness_laws.specs.WatchedChanges.{AreKept, AreLeftAt, AreSpread, BothKept}
+use Rattle.wait_set.specs.Waits.{WaitMap, so_changed, spread_out, touched, where_so}
+use Rattle.readiness_laws.specs.WatchedChanges.{AreKept, BothKept}
 
 -- ---- entries that are kept
 
@@ -70,7 +65,7 @@ pub changed_entry : (p : Waiting → Bool) (f : ℕ → Waiting → Waiting) (V 
 changed_entry p f V k w there = mapped_entry (so_changed p f k) (get V k) w (sym (get-changed (so_changed p f) V k) ∙ there)
 
 pub touched_kept : (v : Waiting) → IsKept v (touched v)
-touched_kept v = record { spots = refl; same = λ h. absurd (not_true (sym h)); everywhere = λ h. h }
+touched_kept v = record { spots = refl; same = λ h. absurd (not_true (sym h)); everywhere = λ h. h; runs = refl }
 
 by_test : (b : Bool) (v : Waiting) → IsKept v (cond b (touched v) v)
 by_test true v = touched_kept v
@@ -98,31 +93,9 @@ not_touched p V k w there done =
     let fails = left_by_test (p was.0) was.0 (ap (λ (x : Waiting). x.left) (sym was.2) ∙ done) in
     ap p (was.2 ∙ ap (λ b. cond b (touched was.0) was.0) fails) ∙ fails
 
-left_at_last : (b : Bool) (w : Waiting) → (w.left ≡ false → b ≡ false) → b ≡ true → w.left ≡ true
-left_at_last b w leads is =
-    elim w.left as (λ l. w.left ≡ l → l ≡ true) [ true ↦ λ _. refl | false ↦ λ done. absurd (not_true (sym (leads done) ∙ is)) ] refl
-
-pub touch_leaves : (x : Spot) (V : WaitMap) → AreLeftAt x (where_so (stands x) (λ _ s. touched s) V)
-touch_leaves x V = record { left = λ k w there at. left_at_last (stands x w) w (not_touched (stands x) V k w there) at }
-
--- one thread
-one_kept : (b : Bool) (o : Option Waiting) → BothKept o (cond b (option_map touched o) o)
-one_kept true o = mapped_kept touched touched_kept o
-one_kept false o = both_self o
-
-pub touch_thread_keeps : (thread : ℕ) (V W : WaitMap) → ((k : ℕ) → get W k ≡ cond (nat_eq k thread) (option_map touched (get V k)) (get V k)) → AreKept V W
-touch_thread_keeps thread V W is = record { each = λ k. subst (BothKept (get V k)) (sym (is k)) (one_kept (nat_eq k thread) (get V k)) }
-
-pub touch_thread_leaves : (thread : ℕ) (V W : WaitMap) → ((k : ℕ) → get W k ≡ cond (nat_eq k thread) (option_map touched (get V k)) (get V k))
-    → (w : Waiting) → get W thread ≡ Some w → w.left ≡ true
-touch_thread_leaves thread V W is w there =
-    let was = mapped_entry touched (get V thread) w
-    (sym (ap (λ b. cond b (option_map touched (get V thread)) (get V thread)) (eq-eqb thread thread refl)) ∙ sym (is thread) ∙ there) in
-    ap (λ (x : Waiting). x.left) was.2
-
 -- the threads of a process
 pub spread_kept : (v : Waiting) → IsKept v (spread_out v)
-spread_kept v = record { spots = refl; same = λ h. absurd (not_true (sym h)); everywhere = λ h. absurd (not_true (sym h)) }
+spread_kept v = record { spots = refl; same = λ h. absurd (not_true (sym h)); everywhere = λ h. absurd (not_true (sym h)); runs = refl }
 
 spread_or_not : (b : Bool) (o : Option Waiting) → BothKept o (cond b (option_map spread_out o) o)
 spread_or_not true o = mapped_kept spread_out spread_kept o
@@ -134,37 +107,3 @@ AreSpreadOut test V W = (k : ℕ) → get W k ≡ cond (test k) (option_map spre
 
 pub spread_keeps : (test : ℕ → Bool) (V W : WaitMap) → AreSpreadOut test V W → AreKept V W
 spread_keeps test V W is = record { each = λ k. subst (BothKept (get V k)) (sym (is k)) (spread_or_not (test k) (get V k)) }
-
-pub spread_leaves : (test : ℕ → Bool) (V W : WaitMap) (p : ℕ) → AreSpreadOut test V W → ((t : ℕ) → t < 2 ^ 32 → test (key p t) ≡ true) → AreSpread p W
-spread_leaves test V W p is within = record {
-  spread = λ t w small there.
-      let was = mapped_entry spread_out (get V (key p t)) w
-      (sym (ap (λ b. cond b (option_map spread_out (get V (key p t))) (get V (key p t))) (within t small)) ∙ sym (is (key p t)) ∙ there) in
-      ap (λ (x : Waiting). x.everywhere && x.left) was.2;
-}
-
--- ---- who is left to be tested stays so
-
-pub left_on : (x : Spot) (V W : WaitMap) → AreKept V W → AreLeftAt x V → AreLeftAt x W
-left_on x V W kept left = record {
-  left = λ k w there at.
-      elim w.left as (λ l. w.left ≡ l → l ≡ true) [
-        | true ↦ λ _. refl
-        | false ↦ λ done. absurd (not_true (sym done ∙ left.left k w (kept_same V W kept k w there done) at))
-      ] refl;
-}
-
-both_of : (a b c d : Bool) → (c ≡ false → a ≡ false) → (d ≡ false → b ≡ false) → (a && b) ≡ true → (c && d) ≡ true
-both_of true true true true one two h = refl
-both_of true true false d one two h = absurd (not_true (sym (one refl)))
-both_of true true true false one two h = absurd (not_true (sym (two refl)))
-both_of true false c d one two h = absurd (not_true h)
-both_of false b c d one two h = absurd (not_true h)
-
-pub spread_on : (p : ℕ) (V W : WaitMap) → AreKept V W → AreSpread p V → AreSpread p W
-spread_on p V W kept spread = record {
-  spread = λ t w small there.
-      let was = kept_entry V W kept (key p t) w there in
-      both_of was.0.everywhere was.0.left w.everywhere w.left was.2.everywhere
-      (λ done. ap (λ (x : Waiting). x.left) (sym (was.2.same done)) ∙ done) (spread.spread t was.0 small was.1);
-}

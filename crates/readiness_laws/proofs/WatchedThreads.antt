@@ -1,45 +1,45 @@
--- Entries of threads that begin to wait, run again, or are noted anew.
+-- Entries of threads that begin to wait, run again, are made or end.
 --     one_entry      one thread does something else, and has another entry or none
---     waits_is_watched, spread_is_watched      one waits, and has noted where it stands, or stands everywhere
---     gone_is_watched, cleared_is_watched      one is no more, and has no entry; or it runs, and has one that was cleared
---     anew_is_watched      one that waits has noted anew where it stands, and is marked as it was
+--     rests_is_watched      one waits, and stands at spots that cover its own, or everywhere
+--     gone_is_watched, cleared_is_watched      one is no more, and has no entry; or it runs, and has one that lists no moment
+--     lasting, running_entry      of the spots of a thread that runs again none that is kept is a moment, and its entry is as it is to be
 --     entry_there      each thread has an entry
---     parked_is_watched, spread_with_thread, resumed_is_watched      by the model's own changes of what a thread does
---     begun_is_watched, removed_is_watched      an entry of a number that no thread has
+--     rests_with_thread      by the model's own change of what a thread does
+--     made_is_watched      a thread is made, which runs, and its entry is put in
+--     none_there      where there is no thread there is no entry
 --     start_is_watched      at the start
 --     apart_with      other threads do what they did where one does something else
-use Rattle.std.proofs.Common.{◌≡◌, ◌≢◌, ◌⊎◌, ℕ, ◌^◌, ◌<◌, true, false, inl, inr, List, [], Option, None, Some, IsSome, refl, sym, ap, subst, ◌∙◌, lit<}
+use Rattle.std.proofs.Common.{◌≡◌, ◌≢◌, ◌⊎◌, ℕ, ◌^◌, ◌<◌, Bool, true, false, inl, inr, List, [], ◌∷◌, Option, None, Some, IsSome, refl, sym, ap, subst, ◌∙◌, lit<}
 use Rattle.std.proofs.lemmas.Bool.Decides.{eqb_tells}
 use Rattle.std.specs.Ordering.{nat_cmp}
-use Rattle.std.specs.FinMap.{FinMap, empty, get, get-empty, insert, remove}
+use Rattle.std.specs.FinMap.{FinMap, empty, get, get-empty, insert}
 use Rattle.std.specs.Option.{option_map}
-use Rattle.std.specs.List.{AllByRecursion}
+use Rattle.std.specs.List.{AllByRecursion, filter}
 use Rattle.abi_base.specs.declared.grant.Grant.{Grant}
-use Rattle.abi_types.specs.declared.call.Call.{Call}
 use Rattle.abi_types.specs.declared.constants.Constants.{Constants}
 use Rattle.abi_types.specs.declared.thread.Thread.{Thread}
-use Rattle.abi_types.specs.declared.thread.Thread.TheVariants.{Runnable}
-use Rattle.abi_types.specs.declared.who.Who.{Who}
-use Rattle.maps.specs.Maps.{get-insert-other, get-insert-same, get-remove-other, get-remove-same}
+use Rattle.abi_types.specs.declared.thread.Thread.TheVariants.{Runnable, Waits}
+use Rattle.maps.specs.Maps.{get-insert-other, get-insert-same}
 use Rattle.kernel_model.specs.Start.{first_process, start_state}
 use Rattle.kernel_model.specs.State.{State, ProcessState, Tree, thread_in, thread_of}
-use Rattle.kernel_model.specs.Waits.{may_wait, resumed, waiting, with_thread, HasDeadline, MayWait}
-use Rattle.kernel_model.proofs.Parking.{waiting_may}
+use Rattle.kernel_model.specs.Waits.{with_thread, HasDeadline, MayWait}
+use Rattle.kernel_model.specs.Wakes.{is_ready}
 use Rattle.kernel_model.proofs.Tests.{not_true}
 use Rattle.kernel_model.proofs.Threading.{thread_apart, thread_elsewhere, thread_here}
 use Rattle.kernel_parts.specs.Keys.{key}
-use Rattle.wait_set.specs.declared.spot.Spot.TheVariants.{Moment}
+use Rattle.wait_set.specs.declared.spot.Spot.{Spot}
+use Rattle.wait_set.specs.declared.spot.Spot.TheVariants.{Channel, Ended, Moment}
 use Rattle.wait_set.specs.declared.waiting.Waiting.{Waiting}
-use Rattle.wait_set.specs.Waits.{WaitMap, fresh}
 use Rattle.wait_set.specs.Spots.{listed}
+use Rattle.wait_set.specs.Waits.{IsStood, WaitMap, fresh, lasts, lists, resting, running}
 use Rattle.readiness_laws.specs.Spots.{AreSame, spots}
-use Rattle.readiness_laws.specs.Watched.{AreEntries, Covers, HasEntry, IsEntry, IsWatched, StandsAt, is_moment, is_waiting, looked_at, until_in}
-use Rattle.readiness_laws.proofs.Alike.{same_by_parts}
+use Rattle.readiness_laws.specs.Watched.{AreEntries, Covers, HasEntry, IsEntry, IsWatched, StandsAt, is_moment, is_running, is_waiting, looked_at, until_in}
+use Rattle.readiness_laws.proofs.Alike.{ready_by_parts, same_by_parts}
 use Rattle.readiness_laws.proofs.Keys.{key_same}
 use Rattle.readiness_laws.proofs.Locality.{readiness_is_local}
-use Rattle.readiness_laws.proofs.Noted.{covers_by_parts, standing_entry}
+use Rattle.readiness_laws.proofs.Noted.{covers_by_parts, stood_entry}
 use Rattle.readiness_laws.proofs.Standing.{spots_stay}
-use Rattle.readiness_laws.proofs.Watched.{all_everywhere, idle_entry, idle_may}
+use Rattle.readiness_laws.proofs.Watched.{idle_entry, idle_may}
 
 -- one of the two numbers is another
 abbrev pub IsApart : ℕ → ℕ → ℕ → ℕ → Type 0
@@ -56,6 +56,16 @@ of_two p t P here apart q u =
       | inr other ↦ apart q u (inl other.1)
     ]
 
+-- a thread that waits is there, and doesn't run
+waiting_there : (o : Option Thread) → is_waiting o ≡ true → IsSome o
+waiting_there None waits = absurd (not_true waits)
+waiting_there (Some thread) waits = refl
+
+waiting_rests : (o : Option Thread) → is_waiting o ≡ true → is_running o ≡ false
+waiting_rests None waits = refl
+waiting_rests (Some Runnable) waits = absurd (not_true waits)
+waiting_rests (Some (Waits call since until stage)) waits = refl
+
 module _ (S : State) (processes : FinMap nat_cmp ProcessState) where
   abbrev T : State
   T = record S { processes = processes }
@@ -69,6 +79,8 @@ module _ (S : State) (processes : FinMap nat_cmp ProcessState) where
         places = subst (AllByRecursion (StandsAt w)) (sym (spots_stay S T p t all)) entry.places;
         marks = λ constants done deadline.
             let until = subst (HasDeadline constants) thread deadline in entry.marks constants done until ∙ readiness_is_local constants S T p t may until all;
+        there = subst IsSome (sym thread) entry.there;
+        runs = entry.runs ∙ ap is_running (sym thread);
       }
 
   same_or_none : (p t : ℕ) (e : Option Waiting) → thread_of T p t ≡ thread_of S p t → MayWait (thread_of S p t) → HasEntry S p t e → HasEntry T p t e
@@ -101,42 +113,34 @@ module _ (S : State) (processes : FinMap nat_cmp ProcessState) (V W : WaitMap) (
   by_entry : MayWait (thread_of after p t) → HasEntry (looked_at after) p t (get W (key p t)) → IsWatched after W
   by_entry may entry = one_entry (looked_at S) processes V W before p t small threads others may entry
 
-  -- it waits, and its entry covers its spots
-  pub waits_is_watched : (w : Waiting) → MayWait (thread_of after p t)
-      → get W (key p t) ≡ Some w → Covers after p t w.spots → w.left ≡ true → IsWatched after W
-  waits_is_watched w may there covers left =
+  -- it waits, and stands at spots that cover its own, or everywhere
+  pub rests_is_watched : (those : List Spot) (v w : Waiting) → MayWait (thread_of after p t) → is_waiting (thread_of after p t) ≡ true
+      → get W (key p t) ≡ Some w → IsStood those v w → Covers after p t those → v.runs ≡ false
+      → ((other : Constants) → v.left ≡ false → HasDeadline other (thread_of after p t) → v.ready ≡ is_ready other after p t) → IsWatched after W
+  rests_is_watched those v w may waits there stands covers rests marks =
       by_entry may (subst (HasEntry (looked_at after) p t) (sym there)
-      (standing_entry (looked_at after) p t w (covers_by_parts after p t w.spots covers)
-      (λ other done until. absurd (not_true (sym done ∙ left)))))
-
-  -- it waits, and its entry stands everywhere, since memory ran out
-  pub spread_is_watched : (w : Waiting) → MayWait (thread_of after p t) → get W (key p t) ≡ Some w → w.everywhere ≡ true → w.left ≡ true → IsWatched after W
-  spread_is_watched w may there everywhere left =
-      by_entry may (subst (HasEntry (looked_at after) p t) (sym there) (record {
-        moments = λ only m. absurd (not_true (sym only ∙ everywhere));
-        places = all_everywhere w everywhere (spots (looked_at after) p t);
-        marks = λ other done until. absurd (not_true (sym done ∙ left));
-      }))
+      (stood_entry (looked_at after) p t those v w (covers_by_parts after p t those covers) stands
+      (λ other done until. marks other done until ∙ sym (ready_by_parts other after p t may until))
+      (waiting_there (thread_of after p t) waits) (rests ∙ sym (waiting_rests (thread_of after p t) waits))))
 
   pub gone_is_watched : thread_of after p t ≡ None → get W (key p t) ≡ None → IsWatched after W
   gone_is_watched gone none = by_entry (subst MayWait (sym gone) tt) (subst (HasEntry (looked_at after) p t) (sym none) gone)
 
-  pub cleared_is_watched : (w : Waiting) → is_waiting (thread_of after p t) ≡ false → get W (key p t) ≡ Some w → w.spots ≡ [] → w.left ≡ true → IsWatched after W
-  cleared_is_watched w idle there none left =
-      by_entry (idle_may (thread_of after p t) idle) (subst (HasEntry (looked_at after) p t) (sym there)
-      (idle_entry (looked_at after) p t w idle (λ _ m. ap (listed (Moment m)) none) (λ constants done. absurd (not_true (sym done ∙ left)))))
+  pub cleared_is_watched : (w : Waiting) → thread_of after p t ≡ Some Runnable → get W (key p t) ≡ Some w → ((m : ℕ) → lists (Moment m) w ≡ false)
+      → w.left ≡ true → w.runs ≡ true → IsWatched after W
+  cleared_is_watched w is there none left runs =
+      by_entry (idle_may (thread_of after p t) (ap is_waiting is)) (subst (HasEntry (looked_at after) p t) (sym there)
+      (idle_entry (looked_at after) p t w is (λ _ m. none m) (λ constants done. absurd (not_true (sym done ∙ left))) runs))
 
--- a thread that waits on, and whose entry is noted anew
-pub anew_is_watched : (S : State) (V W : WaitMap) (p t : ℕ) (v w : Waiting) → IsWatched S V → t < 2 ^ 32
-    → ((k : ℕ) → k ≢ key p t → get W k ≡ get V k) → get V (key p t) ≡ Some v → get W (key p t) ≡ Some w
-    → Covers S p t w.spots → w.ready ≡ v.ready → w.left ≡ v.left → IsWatched S W
-anew_is_watched S V W p t v w before small others was there covers ready left =
-    one_entry (looked_at S) S.processes V W before p t small (λ q u apart. refl) others (before.may p t)
-    (subst (HasEntry (looked_at S) p t) (sym there)
-    (standing_entry (looked_at S) p t w (covers_by_parts S p t w.spots covers)
-    (λ other done until.
-    let old : IsEntry (looked_at S) p t v = subst (HasEntry (looked_at S) p t) was (before.entries p t small) in
-    ready ∙ old.marks other (sym left ∙ done) until)))
+-- of the spots that are kept none is a moment
+pub lasting : (m : ℕ) (spots : List Spot) → listed (Moment m) (filter lasts spots) ≡ false
+lasting m [] = refl
+lasting m (Channel n ∷ spots) = lasting m spots
+lasting m (Ended n ∷ spots) = lasting m spots
+lasting m (Moment n ∷ spots) = lasting m spots
+
+pub running_entry : (S : State) (p t : ℕ) (v : Waiting) → thread_of S p t ≡ Some Runnable → IsEntry S p t (running v)
+running_entry S p t v is = idle_entry S p t (running v) is (λ _ m. lasting m v.spots) (λ constants done. absurd (not_true (sym done))) refl
 
 -- ---- by the thread that does something else
 
@@ -155,16 +159,17 @@ there_with thread (Some before) some = refl
 pub here_with : (S : State) (p t : ℕ) (thread : Thread) → IsSome (thread_of S p t) → thread_of (with_thread S p t thread) p t ≡ Some thread
 here_with S p t thread there = thread_here S p t thread ∙ there_with thread (thread_of S p t) there
 
--- A thread begins to wait in a call, as it does by the model; its entry is put in, fresh or not.
-pub parked_is_watched : (constants : Constants) (S : State) (V : WaitMap) (p t : ℕ) (who : Who) (call : Call) (now : ℕ) (w : Waiting) → IsWatched S V
-    → IsSome (thread_of S p t) → may_wait call ≡ true → Covers (with_thread S p t (waiting constants call who now)) p t w.spots → w.left ≡ true
-    → IsWatched (with_thread S p t (waiting constants call who now)) (insert V (key p t) w)
-parked_is_watched constants S V p t who call now w before there may covers left =
-    let thread = waiting constants call who now in
+-- A thread begins to wait. It stands at spots that cover its own, or everywhere, and unless it is left to be tested it can't be ready.
+pub rests_with_thread : (S : State) (V W : WaitMap) (p t : ℕ) (thread : Thread) (those : List Spot) (b : Bool) (v w : Waiting) → IsWatched S V
+    → IsSome (thread_of S p t) → MayWait (Some thread) → is_waiting (Some thread) ≡ true → W ≡ insert V (key p t) w → IsStood those (resting b v) w
+    → Covers (with_thread S p t thread) p t those
+    → (b ≡ false → (other : Constants) → HasDeadline other (thread_of (with_thread S p t thread) p t) → is_ready other (with_thread S p t thread) p t ≡ false)
+    → IsWatched (with_thread S p t thread) W
+rests_with_thread S V W p t thread those b v w before there may waits is stands covers unready =
     let here = here_with S p t thread there in
-    waits_is_watched S (with_thread S p t thread).processes V (insert V (key p t) w) before p t (before.small p t there) (apart_with S p t thread)
-    (λ k apart. get-insert-other V (key p t) w k apart) w (subst MayWait (sym here) (waiting_may constants call who now may))
-    (get-insert-same V (key p t) w) covers left
+    rests_is_watched S (with_thread S p t thread).processes V W before p t (before.small p t there) (apart_with S p t thread)
+    (λ k apart. ap (λ X. get X k) is ∙ get-insert-other V (key p t) w k apart) those (resting b v) w (subst MayWait (sym here) may) (ap is_waiting here ∙ waits)
+    (ap (λ X. get X (key p t)) is ∙ get-insert-same V (key p t) w) stands covers refl (λ other done until. sym (unready done other until))
 
 -- each thread has an entry
 pub entry_there : (S : State) (W : WaitMap) (p t : ℕ) → IsWatched S W → IsSome (thread_of S p t) → (w : Waiting) × (get W (key p t) ≡ Some w)
@@ -174,37 +179,25 @@ entry_there S W p t watched there =
       | Some w ↦ λ _. (w, refl)
     ] refl
 
--- A thread begins to wait, and its entry stands everywhere at first.
-pub spread_with_thread : (S : State) (V W : WaitMap) (p t : ℕ) (thread : Thread) → IsWatched S V → IsSome (thread_of S p t) → MayWait (Some thread)
-    → ((k : ℕ) → k ≢ key p t → get W k ≡ get V k) → (w : Waiting) → get W (key p t) ≡ Some w → w.everywhere ≡ true → w.left ≡ true
-    → IsWatched (with_thread S p t thread) W
-spread_with_thread S V W p t thread before there may others w now everywhere left =
-    spread_is_watched S (with_thread S p t thread).processes V W before p t (before.small p t there) (apart_with S p t thread) others w
-    (subst MayWait (sym (here_with S p t thread there)) may) now everywhere left
+-- ---- threads that are made
 
--- A thread runs from here on, and its entry is cleared.
-pub resumed_is_watched : (S : State) (V : WaitMap) (who : Who) → IsWatched S V → IsSome (thread_of S who.pid who.tid)
-    → IsWatched (resumed S who) (insert V (key who.pid who.tid) fresh)
-resumed_is_watched S V who before there =
-    let here = here_with S who.pid who.tid Runnable there in
-    cleared_is_watched S (resumed S who).processes V (insert V (key who.pid who.tid) fresh) before who.pid who.tid (before.small who.pid who.tid there)
-    (apart_with S who.pid who.tid Runnable) (λ k apart. get-insert-other V (key who.pid who.tid) fresh k apart) fresh (ap is_waiting here)
-    (get-insert-same V (key who.pid who.tid) fresh) refl refl
+-- A thread is made, which runs, and its entry is put in; it may have been put in before.
+pub made_is_watched : (S : State) (processes : FinMap nat_cmp ProcessState) (V : WaitMap) (p t : ℕ) → IsWatched S V → t < 2 ^ 32
+    → ((q u : ℕ) → IsApart p t q u → thread_of (record S { processes = processes }) q u ≡ thread_of S q u)
+    → thread_of (record S { processes = processes }) p t ≡ Some Runnable → IsWatched (record S { processes = processes }) (insert V (key p t) fresh)
+made_is_watched S processes V p t before small threads is =
+    cleared_is_watched S processes V (insert V (key p t) fresh) before p t small threads (λ k apart. get-insert-other V (key p t) fresh k apart) fresh is
+    (get-insert-same V (key p t) fresh) (λ m. refl) refl refl
 
--- ---- entries of numbers that no thread has
-
--- an entry is put in ahead, before its thread is made
-pub begun_is_watched : (S : State) (V : WaitMap) (p t : ℕ) → IsWatched S V → t < 2 ^ 32 → is_waiting (thread_of S p t) ≡ false
-    → IsWatched S (insert V (key p t) fresh)
-begun_is_watched S V p t before small idle =
-    cleared_is_watched S S.processes V (insert V (key p t) fresh) before p t small (λ q u apart. refl) (λ k apart. get-insert-other V (key p t) fresh k apart) fresh
-    idle (get-insert-same V (key p t) fresh) refl refl
-
--- and taken out, where it has none
-pub removed_is_watched : (S : State) (V : WaitMap) (p t : ℕ) → IsWatched S V → t < 2 ^ 32 → thread_of S p t ≡ None → IsWatched S (remove V (key p t))
-removed_is_watched S V p t before small gone =
-    gone_is_watched S S.processes V (remove V (key p t)) before p t small (λ q u apart. refl) (λ k apart. get-remove-other V (key p t) k apart) gone
-    (get-remove-same V (key p t))
+-- where there is no thread there is no entry
+pub none_there : (S : State) (W : WaitMap) (p t : ℕ) → IsWatched S W → t < 2 ^ 32 → thread_of S p t ≡ None → get W (key p t) ≡ None
+none_there S W p t watched small none =
+    elim (get W (key p t)) as (λ o. get W (key p t) ≡ o → o ≡ None) [
+      | None ↦ λ _. refl
+      | Some w ↦ λ is.
+          let entry : IsEntry (looked_at S) p t w = subst (HasEntry (looked_at S) p t) is (watched.entries p t small) in
+          absurd (not_true (subst IsSome none entry.there))
+    ] refl
 
 -- ---- the start
 
@@ -247,7 +240,7 @@ start_is_watched tree grants stdin = record {
   entries = λ p t below.
       start_each tree grants stdin (λ q u o. u < 2 ^ 32 → thread_of (start_state tree grants stdin) q u ≡ o → HasEntry (looked_at (start_state tree grants stdin)) q u (get first_entries (key q u)))
       (λ _ is. subst (HasEntry (looked_at (start_state tree grants stdin)) 0 1) (sym (get-insert-same empty (key 0 1) fresh))
-      (idle_entry (looked_at (start_state tree grants stdin)) 0 1 fresh (ap is_waiting is) (λ _ m. refl) (λ constants done. absurd (not_true (sym done)))))
+      (idle_entry (looked_at (start_state tree grants stdin)) 0 1 fresh is (λ _ m. refl) (λ constants done. absurd (not_true (sym done))) refl))
       (λ q u apart small is. subst (HasEntry (looked_at (start_state tree grants stdin)) q u) (sym (get-insert-other empty (key 0 1) fresh (key q u) (elsewhere q u small apart) ∙ get-empty nat_cmp (key q u))) is)
       p t below refl;
 } where

@@ -1,11 +1,10 @@
 -- Entries as time goes on, and as channels and processes change at which all who stand there are left to be tested.
 --     quiet_entries      a change of the time, channels and statuses alone
 --     kept_is_watched      where nothing changes, and more threads are left to be tested
---     time_is_watched, touched_in_time, passed_is_watched      as time goes on
---     channels_are_watched, statuses_are_watched, channel_is_watched, status_is_watched      as channels change, and the ends of processes
-use Rattle.std.proofs.Common.{◌≡◌, ◌≢◌, ◌⊎◌, ℕ, ◌≤◌, ◌||◌, Bool, true, false, inl, inr, List, [], ◌∷◌, Option, None, Some, IsSome, refl, sym, ap, subst, ◌∙◌}
+--     time_is_watched      as time goes on
+--     channels_are_watched, statuses_are_watched      as channels change, and the ends of processes
+use Rattle.std.proofs.Common.{◌≡◌, ◌⊎◌, ℕ, ◌≤◌, ◌||◌, Bool, true, false, inl, inr, List, [], ◌∷◌, Option, None, Some, IsSome, refl, sym, ap, subst, ◌∙◌}
 use Rattle.std.proofs.lemmas.Bool.{eqb-true}
-use Rattle.std.proofs.lemmas.Bool.Decides.{eqb_tells}
 use Rattle.std.specs.Ordering.{nat_cmp}
 use Rattle.std.specs.List.{list_any}
 use Rattle.std.specs.FinMap.{FinMap, get}
@@ -16,18 +15,18 @@ use Rattle.abi_types.specs.declared.descriptor.Descriptor.{Descriptor}
 use Rattle.kernel_model.specs.Release.{is_of_process, is_reader, is_writer}
 use Rattle.kernel_model.specs.State.{State}
 use Rattle.kernel_model.specs.WaitLaws.{at_moment}
-use Rattle.kernel_model.proofs.Tests.{either_false, not_true, or_false}
+use Rattle.kernel_model.proofs.Tests.{not_true, or_false}
 use Rattle.wait_set.specs.declared.spot.Spot.{Spot}
 use Rattle.wait_set.specs.declared.spot.Spot.TheVariants as spot
 use Rattle.wait_set.specs.declared.waiting.Waiting.{Waiting}
 use Rattle.wait_set.specs.Spots.{listed, same_spot}
-use Rattle.wait_set.specs.Waits.{WaitMap, due_spot, is_due, is_within, lists, stands, touched, where_so}
+use Rattle.wait_set.specs.Waits.{WaitMap, due_spot, is_due, is_within, lists, stands}
 use Rattle.readiness_laws.specs.PlaceLaws.{row_in}
 use Rattle.readiness_laws.specs.Watched.{AreEntries, IsWatched, looked_at}
 use Rattle.readiness_laws.specs.WatchedChanges.{AreKept, AreLeftAt, all_stay, stays}
 use Rattle.readiness_laws.proofs.Changing.{come_same}
 use Rattle.readiness_laws.proofs.Watched.{changed_entries}
-use Rattle.readiness_laws.proofs.WatchedSets.{kept_entry, kept_follows, kept_none, kept_same, not_touched, touch_keeps}
+use Rattle.readiness_laws.proofs.WatchedSets.{kept_entry, kept_none}
 
 none_some : {A : Type 0} (o : Option Waiting) → o ≡ None → IsSome o → A
 none_some o none some = absurd (not_true (subst IsSome none some))
@@ -102,36 +101,6 @@ time_is_watched S later V W before kept forward left =
     sym (come_same S.clock later m forward (not_within (is_within (Some S.clock) (Some later) m) _
     (λ within. due_listed (Some S.clock) (Some later) m w.spots within listed_there) not_due.0)))
 
--- whoever stands everywhere is left to be tested
-pub record SpreadAreLeft (V : WaitMap) : Type 0 where
-  pub left : (k : ℕ) (v : Waiting) → get V k ≡ Some v → v.everywhere ≡ true → v.left ≡ true
-
--- so it is once moments are touched, where those that stand everywhere are left already
-pub touched_in_time : (S : State) (later : ℕ) (V : WaitMap) → IsWatched S V → SpreadAreLeft V → S.clock ≤ later
-    → IsWatched (at_moment S later) (where_so (is_due (Some S.clock) (Some later)) (λ _ s. touched s) V)
-touched_in_time S later V before spread forward =
-    time_is_watched S later V (where_so (is_due (Some S.clock) (Some later)) (λ _ s. touched s) V) before (touch_keeps (is_due (Some S.clock) (Some later)) V)
-    forward (λ k w there done. (
-      not_touched (is_due (Some S.clock) (Some later)) V k w there done,
-      not_spread w (spread.left k w (kept_same V _ (touch_keeps (is_due (Some S.clock) (Some later)) V) k w there done)) done,
-    )) where
-      not_spread : (w : Waiting) → (w.everywhere ≡ true → w.left ≡ true) → w.left ≡ false → w.everywhere ≡ false
-      not_spread w leads done =
-          elim w.everywhere as (λ b. w.everywhere ≡ b → b ≡ false) [ true ↦ λ is. absurd (not_true (sym done ∙ leads is)) | false ↦ λ _. refl ] refl
-
--- so it is where who stands at the later moment is touched too, and with them whoever stands everywhere
-pub passed_is_watched : (S : State) (later : ℕ) (V : WaitMap) → IsWatched S V → S.clock ≤ later
-    → IsWatched (at_moment S later) (where_so (stands (spot.Moment later)) (λ _ s. touched s) (where_so (is_due (Some S.clock) (Some later)) (λ _ s. touched s) V))
-passed_is_watched S later V before forward =
-    let X : WaitMap = where_so (is_due (Some S.clock) (Some later)) (λ _ s. touched s) V in
-    let inner = touch_keeps (is_due (Some S.clock) (Some later)) V in
-    let outer = touch_keeps (stands (spot.Moment later)) X in
-    time_is_watched S later V (where_so (stands (spot.Moment later)) (λ _ s. touched s) X) before (kept_follows V X _ inner outer) forward
-    (λ k w there done. (
-      not_touched (is_due (Some S.clock) (Some later)) V k w (kept_same X _ outer k w there done) done,
-      (either_false (lists (spot.Moment later) w) w.everywhere (not_touched (stands (spot.Moment later)) X k w there done)).1,
-    ))
-
 -- ---- channels, and the ends of processes
 
 -- each channel of an open that some number names is the same, or those who stand there are left
@@ -154,20 +123,3 @@ statuses_are_watched S statuses V W before kept each =
     (λ k c p n w d there done at was of. refl)
     (λ k q p n w d there done at was of. elim (each q p n d was of) [ inl same ↦ same | inr left ↦ absurd (not_true (sym done ∙ left.left k w there at)) ])
     (λ k m w there done at. refl)
-
--- one of them alone
-pub channel_is_watched : (S : State) (chans : FinMap nat_cmp Channel) (c : ℕ) (V W : WaitMap) → IsWatched S V → AreKept V W → AreLeftAt (spot.Channel c) W
-    → ((e : ℕ) → e ≢ c → get chans e ≡ get S.chans e) → IsWatched (record S { chans = chans }) W
-channel_is_watched S chans c V W before kept left others =
-    channels_are_watched S chans V W before kept (λ e p n d was of. elim (eqb_tells e c) [
-      | inl same ↦ inr (subst (λ j. AreLeftAt (spot.Channel j) W) (sym same.1) left)
-      | inr other ↦ inl (others e other.1)
-    ])
-
-pub status_is_watched : (S : State) (statuses : FinMap nat_cmp Status) (q : ℕ) (V W : WaitMap) → IsWatched S V → AreKept V W → AreLeftAt (spot.Ended q) W
-    → ((r : ℕ) → r ≢ q → get statuses r ≡ get S.statuses r) → IsWatched (record S { statuses = statuses }) W
-status_is_watched S statuses q V W before kept left others =
-    statuses_are_watched S statuses V W before kept (λ r p n d was of. elim (eqb_tells r q) [
-      | inl same ↦ inr (subst (λ j. AreLeftAt (spot.Ended j) W) (sym same.1) left)
-      | inr other ↦ inl (others r other.1)
-    ])

@@ -1,7 +1,7 @@
 -- The entries of threads that go with a state, by which is known who is ready of those that wait.
 --     key p t      the number under which a thread has its entry (kernel_parts)
 --     looked_at S      what waiting threads look at of a state
---     is_waiting, until_in      whether a thread waits, and until which moment
+--     is_waiting, is_running, until_in      whether a thread waits, whether it runs, and until which moment it waits
 --     noted spots      those of the spots at which an entry may stand
 --     Covers S p t those      a list of spots has all of the thread's
 --     IsEntry S p t w      the thread's entry is as it is to be: where it stands, and how it is marked
@@ -41,6 +41,12 @@ is_waiting None = false
 is_waiting (Some Runnable) = false
 is_waiting (Some (Waits call since until stage)) = true
 
+-- whether there is such a thread, and it runs
+abbrev pub is_running : Option Thread → Bool
+is_running None = false
+is_running (Some Runnable) = true
+is_running (Some (Waits call since until stage)) = false
+
 -- until when the thread waits, if there is such a moment
 abbrev pub until_in : Option Thread → Option ℕ
 until_in None = None
@@ -74,16 +80,18 @@ pub record Covers (S : State) (p t : ℕ) (those : List wait.Spot) : Type 0 wher
   pub all : (x : wait.Spot) → listed x (noted (spots S p t)) ≡ true → listed x those ≡ true
   pub moments : (m : ℕ) → listed (Moment m) those ≡ listed (Moment m) (noted (spots S p t))
 
--- The entry of the thread t of process p is as it is to be. It stands at each channel and at the end of each process at which the thread's call looks, and in
--- its list it has the moment until which the thread waits, and no other, unless it stands everywhere. And unless it is left to be tested it is
--- marked by whether the thread is ready, whatever the run's constants are by which the thread waits until its call's deadline. One that runs waits
--- until no moment, and isn't ready.
+-- The entry of the thread t of process p is as it is to be: there is such a thread, and the entry tells whether it runs. It stands at each channel and at the
+-- end of each process at which the thread's call looks, and in its list it has the moment until which the thread waits, and no other, unless it stands
+-- everywhere. And unless it is left to be tested it is marked by whether the thread is ready, whatever the run's constants are by which the thread waits
+-- until its call's deadline. One that runs waits until no moment, and isn't ready.
 pub record IsEntry (S : State) (p t : ℕ) (w : Waiting) : Type 0 where
   pub moments : w.everywhere ≡ false → (m : ℕ) → lists (Moment m) w ≡ is_moment m (until_in (thread_of S p t))
   pub places : AllByRecursion (StandsAt w) (spots S p t)
   pub marks : (constants : Constants) → w.left ≡ false → HasDeadline constants (thread_of S p t) → w.ready ≡ is_ready constants S p t
+  pub there : IsSome (thread_of S p t)
+  pub runs : w.runs ≡ is_running (thread_of S p t)
 
--- where there is no entry there is no thread
+-- where there is no entry there is no thread, and where there is one there is its thread
 abbrev pub HasEntry : State → ℕ → ℕ → Option Waiting → Type 0
 HasEntry S p t None = thread_of S p t ≡ None
 HasEntry S p t (Some w) = IsEntry S p t w

@@ -2,7 +2,6 @@
 --     ThreadChange      what a thread does before and after, and its entry after
 --     RowsStay      the numbers that a call names are of the same descriptors
 --     Changes, IsChanged      a change that leaves to be tested whomever it concerns
---     GoesFurther      a thread does what it did, or its wait has come further
 --     AreKept V W      each entry is there before and after, and what has become of it is that it is left to be tested, or stands everywhere
 --     AreLeftAt x W      each thread that stands at the spot is left to be tested
 --     AreIdle S p      no thread of the process waits
@@ -13,7 +12,7 @@ use Rattle.abi_types.specs.declared.call.Call.{Call}
 use Rattle.abi_types.specs.declared.descriptor.Descriptor.{Descriptor}
 use Rattle.abi_types.specs.declared.thread.Stage.{Stage}
 use Rattle.abi_types.specs.declared.thread.Thread.{Thread}
-use Rattle.abi_types.specs.declared.thread.Thread.TheVariants.{Waits}
+use Rattle.abi_types.specs.declared.thread.Thread.TheVariants.{Runnable, Waits}
 use Rattle.maps.specs.Closure.{member}
 use Rattle.kernel_model.specs.Calls.{named}
 use Rattle.kernel_model.specs.Deadlines.{is_due}
@@ -36,14 +35,14 @@ IsLeft None = ⊤
 IsLeft (Some w) = w.left ≡ true
 
 -- What becomes of a thread with this entry: it does what it did; it waits in the same call and until the same moment, but its wait has come further, as that of
--- one that is given a lock or signalled, and it is left to be tested; it is no more, and has no entry; or it has an entry and waits neither
--- before nor after, as a new thread.
+-- one that is given a lock or signalled, and it is left to be tested; it is no more, and has no entry; or it has an entry, didn't wait
+-- before, and runs after.
 pub data ThreadChange (before after : Option Thread) (entry : Option Waiting) : Type 0 where
   stays : after ≡ before → ThreadChange before after entry
   told : (call : Call) (since later : ℕ) (until : Option ℕ) (was now : Stage) → before ≡ Some (Waits call since until was)
       → after ≡ Some (Waits call later until now) → IsLeft entry → ThreadChange before after entry
   ends : after ≡ None → entry ≡ None → ThreadChange before after entry
-  idles : is_waiting before ≡ false → is_waiting after ≡ false → IsSome entry → ThreadChange before after entry
+  idles : is_waiting before ≡ false → after ≡ Some Runnable → IsSome entry → ThreadChange before after entry
 
 -- The table is the same before and after, or the same descriptors stand in it under the numbers that the call names.
 pub data RowsStay (before after : Option Table) (call : Call) : Type 0 where
@@ -99,11 +98,3 @@ pub record AreSpread (p : ℕ) (W : WaitMap) : Type 0 where
 
 abbrev pub AreIdle : State → ℕ → Type 0
 AreIdle S p = (t : ℕ) → is_waiting (thread_of S p t) ≡ false
-
--- ---- threads whose waits come further
-
--- The thread does what it did, or it waits on in the same call and until the same moment.
-pub data GoesFurther (before after : Option Thread) : Type 0 where
-  same_stage : after ≡ before → GoesFurther before after
-  next_stage : (call : Call) (since : ℕ) (until : Option ℕ) (was now : Stage) → before ≡ Some (Waits call since until was)
-      → after ≡ Some (Waits call since until now) → GoesFurther before after

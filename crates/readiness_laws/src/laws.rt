@@ -7,7 +7,7 @@ ghost use Rattle.readiness_laws.specs.MarkLaws.{DueStaysReady, EntriesGoOver, Ma
 ghost use Rattle.readiness_laws.specs.OtherLaws.{OthersLookElsewhere};
 ghost use Rattle.readiness_laws.specs.PlaceLaws.{BeginsUnready, PlacesAreKept, ToldAreReady};
 ghost use Rattle.readiness_laws.specs.SpotLaws.{SpotsAreFew};
-ghost use Rattle.readiness_laws.specs.WatchLaws.{EntriesTell};
+ghost use Rattle.readiness_laws.specs.WatchLaws.{EntriesTell, RunnersAreTold};
 
 /// A thread that waits for bytes stands at the one channel that they come by, one that waits for room at the one that it sends by, and one that waits for
 /// the end of a process at that; each at its process's descriptors and at the open, and unless it polls at the open's flags. One that waits for
@@ -82,8 +82,14 @@ pub fn runners_are_counted()
 
 /// The entries of threads, each with the spots at which its thread stands and a mark, go with a state where each thread has one, stands where its
 /// call looks, and is marked by whether it is ready, unless it is left to be tested. They go with the next state after each change that leaves to be
-/// tested whomever it concerns, after something has ended, and as threads are tested. Where none is left the next one that is marked is the
-/// next thread that is ready; and where none stands everywhere the first moment at which somebody stands is the least deadline.
+/// tested whomever it concerns, after something has ended, and as some of those that are left are tested. The next entry of one that waits and is ready
+/// is that of the next ready thread; and where none stands everywhere the first moment at which somebody stands is the least deadline.
 pub fn entries_tell_who_is_ready()
     ensures { EntriesTell }
+{}
+
+/// Each thread's entry tells whether it runs, and there is an entry exactly where there is a thread. So each thread waits exactly where no entry is of one
+/// that runs; and with no ready thread, and the least deadline, that tells where time may jump, and where nothing happens any more.
+pub fn entries_tell_who_runs()
+    ensures { RunnersAreTold }
 {}

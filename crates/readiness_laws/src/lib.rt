@@ -5,6 +5,7 @@
 mod laws;
 
 pub use laws::{
-    changes_are_local, entries_are_local, entries_tell_who_is_ready, others_look_elsewhere,
-    others_stay_ready, places_are_kept, readiness_is_local, runners_are_counted, spots_are_few,
+    changes_are_local, entries_are_local, entries_tell_who_is_ready, entries_tell_who_runs,
+    others_look_elsewhere, others_stay_ready, places_are_kept, readiness_is_local,
+    runners_are_counted, spots_are_few,
 };

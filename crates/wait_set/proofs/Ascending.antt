@@ -5,14 +5,13 @@
 --     found, inside, absent      a member stands at an index, and what stands at one is a member
 --     next_some, next_none      the next number after another
 --     length_below      a set of keys of a map isn't larger than the map
-use Rattle.std.proofs.Common.{◌≡◌, ◌≢◌, ◌⊎◌, ℕ, zero, suc, ◌+◌, ◌-◌, ◌<◌, ◌≤◌, Bool, true, false, cond, ◌&&◌, ◌||◌, not, nat_lt, T, List, [], ◌∷◌, ◌++◌, length, get_or, take, drop, drop-cons, inl, inr, Option, Some, None, IsSome, is_some, Result, Ok, Err, refl, sym, ap, subst, ◌∙◌, arith}
+use Rattle.std.proofs.Common.{◌≡◌, ◌≢◌, ◌⊎◌, ℕ, suc, ◌+◌, ◌-◌, ◌<◌, ◌≤◌, Bool, true, false, ◌&&◌, ◌||◌, not, nat_lt, List, [], ◌∷◌, length, get_or, take, drop, drop-cons, inl, inr, Option, Some, None, IsSome, is_some, refl, sym, ap, subst, ◌∙◌, arith}
 use Rattle.std.specs.Bool.{nat_eq}
 use Rattle.std.specs.List.{insert, remove, list_any}
-use Rattle.std.specs.Result.{is_ok, MatchResult}
 use Rattle.std.specs.Ordering.{nat_cmp}
 use Rattle.std.specs.FinMap.{FinMap, get, len}
 use Rattle.std.specs.FinMap as map
-use Rattle.std.proofs.lemmas.Bool.{eq-eqb, ltb-true, ltb-false, lt-ltb, le-ltb, cases_lt}
+use Rattle.std.proofs.lemmas.Bool.{eq-eqb, lt-ltb, le-ltb, cases_lt}
 use Rattle.std.proofs.lemmas.Bool.Decides.{eqb_tells}
 use Rattle.std.proofs.lemmas.List.{take-append-drop}
 use Rattle.std.proofs.lemmas.List.Folds.{list_any-append, list_any_at}
@@ -260,10 +259,6 @@ keys_below X (x ∷ xs) m all keys =
     or_true true = refl
     or_true false = refl
 
--- where each is a key, there are at most as many as keys; and fewer where some key isn't among them
-pub length_below : (X : Type 0) (xs : List ℕ) (m : FinMap nat_cmp X) → IsAscending xs → ((q : ℕ) → member q xs ≡ true → IsSome (get m q)) → length xs ≤ len m
-length_below X xs m up keys = keys_below X xs m (all_apart xs up) keys
-
 pub length_less : (X : Type 0) (xs : List ℕ) (m : FinMap nat_cmp X) (x : ℕ) → IsAscending xs → ((q : ℕ) → member q xs ≡ true → IsSome (get m q))
     → IsSome (get m x) → member x xs ≡ false → length xs < len m
 length_less X xs m x up keys here none =
@@ -313,24 +308,3 @@ before_err xs number k less = le-ltb number (get_or xs k 0) (omega arith)
 
 pub behind_err : (xs : List ℕ) (number k : ℕ) → number < get_or xs k 0 → nat_lt number (get_or xs k 0) ≡ true
 behind_err xs number k more = lt-ltb number (get_or xs k 0) more
-
--- whether a search found the number
-pub answered : (xs : List ℕ) (number : ℕ) (r : Result ℕ ℕ)
-    → MatchResult r (λ i. (i < length xs) × (get_or xs i 0 ≡ number)) (λ i. (i ≤ length xs) × ((k : ℕ) → k < i → get_or xs k 0 < number) × ((k : ℕ) → i ≤ k → k < length xs → number < get_or xs k 0))
-    → is_ok r ≡ member number xs
-answered xs number (Ok i) at = sym (inside number xs i at.0 at.1)
-answered xs number (Err i) at = sym (between xs i number at.1 at.2)
-
--- ---- in or out
-
-pub or_cond : (b m : Bool) → (b || m) ≡ cond b true m
-or_cond true m = refl
-or_cond false m = refl
-
-pub and_cond : (b m : Bool) → (m && not b) ≡ cond b false m
-and_cond true m = and_false m
-and_cond false m = and_true m
-
--- to put in what is in
-pub same_cond : (q number : ℕ) (xs : List ℕ) → member number xs ≡ true → member q xs ≡ cond (nat_eq q number) true (member q xs)
-same_cond q number xs there = not_there q number xs there ∙ or_cond (nat_eq q number) (member q xs)

@@ -1,5 +1,6 @@
 pub mod Ascending
 pub mod Between
+pub mod Least
 pub mod Moments
 pub mod Packed
 pub mod Queueing

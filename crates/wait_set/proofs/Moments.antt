@@ -3,23 +3,23 @@
 --     reached_first, reached_step, reached_last      a walk's beginning, step and end
 --     moments_left, moments_fall      a measure, which falls
 --     bounded_none, bounded_some, bounded_late      the next number up to a bound
-use Rattle.std.proofs.Common.{◌≡◌, ◌≢◌, ℕ, ◌+◌, ◌-◌, ◌<◌, ◌≤◌, Bool, true, false, cond, not, ◌&&◌, ◌||◌, nat_lt, nat_le, inl, inr, List, [], ◌∷◌, Option, Some, None, refl, sym, ap, subst, ◌∙◌, arith}
+use Rattle.std.proofs.Common.{◌≡◌, ℕ, ◌+◌, ◌-◌, ◌<◌, ◌≤◌, Bool, true, false, cond, not, ◌&&◌, ◌||◌, nat_lt, nat_le, inl, inr, List, [], ◌∷◌, Option, Some, None, refl, sym, ap, ◌∙◌, arith}
 use Rattle.std.specs.Bool.{nat_eq}
 use Rattle.std.specs.List.{list_any}
 use Rattle.std.specs.Option.{option_map}
 use Rattle.std.specs.FinMap.{get}
-use Rattle.std.proofs.lemmas.Bool.{eq-eqb, lt-ltb, le-ltb, ltb-true, ltb-false, leb-true, le-leb, lt-leb, cases_lt}
+use Rattle.std.proofs.lemmas.Bool.{eq-eqb, lt-ltb, le-ltb, ltb-true, ltb-false, leb-true, le-leb}
 use Rattle.std.proofs.lemmas.Bool.Decides.{eqb_tells}
 use Rattle.maps.specs.Halves.{not_true}
 use Rattle.maps.specs.Maps.{total-zero, same_numbers}
-use Rattle.maps.specs.Closure.{changed, get-changed}
+use Rattle.maps.specs.Closure.{get-changed}
 use Rattle.wait_set.proofs.Tying.{weighs_none}
 use Rattle.wait_set.specs.declared.spot.Spot.{Spot}
 use Rattle.wait_set.specs.declared.spot.Spot.TheVariants.{Channel, Ended, Moment}
 use Rattle.wait_set.specs.declared.waiting.Waiting.{Waiting}
 use Rattle.wait_set.specs.Next.{is_after, IsNext}
 use Rattle.wait_set.specs.Spots.{same_spot, listed}
-use Rattle.wait_set.specs.Waits.{WaitMap, flag, lists, counted, is_awaited, is_within, due_spot, is_due, so_changed, where_so, touched}
+use Rattle.wait_set.specs.Waits.{WaitMap, lists, counted, is_awaited, due_spot, is_due, so_changed, where_so, touched}
 
 -- what is after a later one is after an earlier one
 later : (r : Option ℕ) (m n : ℕ) → is_after r m ≡ true → nat_lt m n ≡ true → is_after r n ≡ true

@@ -3,19 +3,19 @@
 --     list_at, list_set, list_split, list_joined, list_gone      the numbers in all, seen from the list at i
 --     blocks_few      how many lists there are at most
 --     first_low, first_high      the first number of a list is above those before the list, and not above those from it on
-use Rattle.std.proofs.Common.{◌≡◌, ◌≢◌, ◌⊎◌, ℕ, zero, suc, ◌+◌, ◌-◌, ◌*◌, ◌<◌, ◌≤◌, Bool, true, false, ◌&&◌, ◌||◌, not, nat_lt, Option, Some, None, List, [], ◌∷◌, ◌++◌, length, get_or, set, take, drop, append_assoc, append-nil, inl, inr, refl, sym, ap, subst, ◌∙◌, arith}
+use Rattle.std.proofs.Common.{◌≡◌, ◌⊎◌, ℕ, zero, suc, ◌+◌, ◌-◌, ◌*◌, ◌<◌, ◌≤◌, Bool, true, false, ◌&&◌, ◌||◌, not, nat_lt, Some, None, List, [], ◌∷◌, ◌++◌, length, get_or, set, take, drop, append_assoc, append-nil, inl, inr, refl, sym, ap, subst, ◌∙◌, arith}
 use Rattle.std.specs.Bool.{nat_eq}
-use Rattle.std.specs.List.{insert, remove, concat, list_any}
+use Rattle.std.specs.List.{insert, remove, concat}
 use Rattle.std.proofs.lemmas.Bool.{cases_lt, ltb-true, lt-ltb}
 use Rattle.std.proofs.lemmas.Bool.Decides.{eqb_tells}
-use Rattle.std.proofs.lemmas.List.{take_all, length-drop, length-set, length-append, take-append-drop, take-set, take-set-le, drop-set-lt, take_more, take_more_set, drop_more, get_or-set_same, get_or-set_other, get_or_append_left, get_or-append-add, take-append-le}
+use Rattle.std.proofs.lemmas.List.{take_all, length-drop, length-set, length-append, take-append-drop, take-set, drop-set-lt, take_more, take_more_set, drop_more, get_or-set_same, get_or_append_left, get_or-append-add, take-append-le}
 use Rattle.std.proofs.Math.Seq.{drop-nil}
 use Rattle.std.proofs.lemmas.List.Folds.{list_any-append, concat-append}
-use Rattle.std.proofs.lemmas.List.Edits.{length-insert, get_or-insert_below, get_or-insert_at, get_or-insert_above, length-remove, get_or-remove_below, get_or-remove_above}
+use Rattle.std.proofs.lemmas.List.Edits.{length-remove}
 use Rattle.maps.specs.Halves.{not_true}
 use Rattle.maps.specs.Closure.{member}
 use Rattle.wait_set.specs.Next.{IsNext}
-use Rattle.wait_set.specs.Numbers.{IsAscending, IsPacked, IsPlace, IsJoined, HasSome, block, joined_at}
+use Rattle.wait_set.specs.Numbers.{IsAscending, IsPacked, IsPlace, block, joined_at}
 use Rattle.wait_set.proofs.Ascending.{rising, inside, found, member-insert, member-remove, ascending_insert, ascending_remove}
 
 pub rest_taken : (n : ℕ) (xs : List ℕ) → take (length xs - n) (drop n xs) ≡ drop n xs
@@ -365,13 +365,6 @@ next_first bs packed some = (
   members_at bs 0 _ some ∙ ap (λ b. b || member (get_or (block bs 0) 0 0) (concat (drop 1 bs))) (inside (get_or (block bs 0) 0 0) (block bs 0) 0 (packed.some 0 some) refl),
   λ t _ there. first_high bs 0 t packed some there,
 )
-
--- a number of the last list is one of all
-pub in_list : (bs : List (List ℕ)) (i k : ℕ) → i < length bs → k < length (block bs i) → member (get_or (block bs i) k 0) (concat bs) ≡ true
-in_list bs i k h within =
-    members_at bs i _ h
-    ∙ ap (λ b. member (get_or (block bs i) k 0) (concat (take i bs)) || (b || member (get_or (block bs i) k 0) (concat (drop (i + 1) bs)))) (inside (get_or (block bs i) k 0) (block bs i) k within refl)
-    ∙ or_true (member (get_or (block bs i) k 0) (concat (take i bs)))
 
 -- a number is put into the list at its place
 pub put_ascends : (bs : List (List ℕ)) (number i place : ℕ) → IsPacked bs → IsPlace bs number i → place ≤ length (block bs i)

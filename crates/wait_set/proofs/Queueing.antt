@@ -2,21 +2,20 @@
 --     stood, left_kept, left_dropped      who stands where after one comes or goes
 --     put_some      no queue is empty after one comes
 --     least_next      the least key that passes is the next one
-use Rattle.std.proofs.Common.{◌≡◌, ◌≢◌, ◌⊎◌, ℕ, ◌+◌, ◌<◌, ◌≤◌, Bool, true, false, ◌&&◌, ◌||◌, not, inl, inr, Option, Some, None, IsSome, is_some, Result, Ok, Err, refl, sym, ap, subst, ◌∙◌, arith}
+use Rattle.std.proofs.Common.{◌≡◌, ◌≢◌, ℕ, Bool, true, false, ◌&&◌, ◌||◌, not, inl, inr, Option, Some, None, is_some, Result, Ok, Err, refl, sym, ap, ◌∙◌}
 use Rattle.std.specs.Result.{OnErr}
 use Rattle.std.specs.Bool.{nat_eq}
 use Rattle.std.specs.Ordering.{nat_cmp}
-use Rattle.std.specs.FinMap.{FinMap, get, len, empty, insert, remove, contains_key, get-empty, empty_of_len, len-empty}
-use Rattle.std.proofs.lemmas.Bool.{eq-eqb, ltb-true, lt-ltb}
+use Rattle.std.specs.FinMap.{FinMap, get, len, empty, insert, remove, contains_key, get-empty, empty_of_len}
 use Rattle.std.proofs.lemmas.Bool.Decides.{eqb_tells}
 use Rattle.maps.specs.Halves.{not_true}
-use Rattle.maps.specs.Maps.{passes, least_key, get-insert-same, get-insert-other, get-remove-same, get-remove-other, insert_self, least_key-entry, least_key-least, least_key-none}
+use Rattle.maps.specs.Maps.{passes, least_key, get-insert-same, get-insert-other, get-remove-same, get-remove-other, least_key-entry, least_key-least, least_key-none}
 use Rattle.wait_set.specs.Next.{is_after, IsNext}
-use Rattle.wait_set.specs.Queued.{QueueMap, has_at, stands_in, NoneEmpty}
+use Rattle.wait_set.specs.Queued.{QueueMap, QueueSet, has_at, stands_in, NoneEmpty}
 
 -- a set of threads
 abbrev pub Queue : Type 0
-Queue = FinMap nat_cmp (Unit {0})
+Queue = QueueSet
 
 or_false : (b : Bool) → b ≡ (b || false)
 or_false true = refl
@@ -106,23 +105,21 @@ left_kept old new number thread queue was is =
     ∙ ap (λ b. not (nat_eq t thread) && b) (at_queue old number queue was t))
     (λ n t other. ap (λ m. has_at m n t) is ∙ has_other old number (remove queue thread) n t other)
 
-pub left_dropped : (old new : QueueMap) (number thread : ℕ) (queue : Queue) → Some queue ≡ get old number → remove queue thread ≡ empty
-    → new ≡ remove (insert old number (remove queue thread)) number
-    → (n t : ℕ) → has_at new n t ≡ (has_at old n t && not (nat_eq n number && nat_eq t thread))
-left_dropped old new number thread queue was none is =
-    parted old new number thread
-    (λ t. ap (λ m. has_at m number t) is ∙ ap (λ o. stands_in o t) (get-remove-same (insert old number (remove queue thread)) number)
-    ∙ sym (ap is_some (get-empty nat_cmp t)) ∙ ap (λ q. contains_key q t) (sym none) ∙ contains-remove queue thread t
-    ∙ ap (λ b. not (nat_eq t thread) && b) (at_queue old number queue was t))
-    (λ n t other. ap (λ m. has_at m n t) is ∙ ap (λ o. stands_in o t) (get-remove-other (insert old number (remove queue thread)) number n other)
-    ∙ has_other old number (remove queue thread) n t other)
+not_both : (e : Bool) → (not e && (e || false)) ≡ false
+not_both true = refl
+not_both false = refl
 
--- where nobody stands at the number
-pub left_absent : (old : QueueMap) (number thread : ℕ) → get old number ≡ None → (n t : ℕ) → has_at old n t ≡ (has_at old n t && not (nat_eq n number && nat_eq t thread))
-left_absent old number thread none =
-    parted old old number thread
-    (λ t. ap (λ o. stands_in o t) none ∙ and_comm false (not (nat_eq t thread)) ∙ ap (λ o. not (nat_eq t thread) && stands_in o t) (sym none))
-    (λ n t other. refl)
+-- where no other thread stands at the number
+pub left_only : (old new : QueueMap) (number thread : ℕ) (queue : Queue) → Some queue ≡ get old number → queue ≡ insert empty thread tt → new ≡ remove old number
+    → (n t : ℕ) → has_at new n t ≡ (has_at old n t && not (nat_eq n number && nat_eq t thread))
+left_only old new number thread queue was only is =
+    parted old new number thread
+    (λ t. ap (λ m. has_at m number t) is ∙ ap (λ o. stands_in o t) (get-remove-same old number)
+    ∙ sym (ap (λ b. not (nat_eq t thread) && b)
+    (sym (at_queue old number queue was t) ∙ ap (λ (q : Queue). contains_key q t) only ∙ contains-insert empty thread t
+    ∙ ap (λ b. nat_eq t thread || b) (ap is_some (get-empty nat_cmp t)))
+    ∙ not_both (nat_eq t thread)))
+    (λ n t other. ap (λ m. has_at m n t) is ∙ ap (λ o. stands_in o t) (get-remove-other old number n other))
 
 -- a queue that is new, where there was none
 pub at_none : (m : QueueMap) (number : ℕ) (queue : Queue) → queue ≡ empty → contains_key m number ≡ false → (t : ℕ) → contains_key queue t ≡ has_at m number t
@@ -154,17 +151,14 @@ pub inserted_some : (queue : Queue) (thread : ℕ) → len (insert queue thread 
 inserted_some queue thread none =
     not_true (sym (ap is_some (ap (λ (q : Queue). get q thread) (empty_of_len _ none) ∙ get-empty nat_cmp thread)) ∙ ap is_some (get-insert-same queue thread tt))
 
-pub remove_some : (m : QueueMap) (k : ℕ) (queue : Queue) → NoneEmpty m → NoneEmpty (remove (insert m k queue) k)
-remove_some m k queue some =
+pub remove_some : (m : QueueMap) (k : ℕ) → NoneEmpty m → NoneEmpty (remove m k)
+remove_some m k some =
     record {
       some = λ n q at. elim (eqb_tells n k) [
-        | inl same ↦ λ none. not_true (ap is_some (sym (get-remove-same (insert m k queue) k) ∙ ap (get (remove (insert m k queue) k)) (sym same.1) ∙ at))
-        | inr other ↦ some.some n q (sym (get-remove-other (insert m k queue) k n other.1 ∙ get-insert-other m k queue n other.1) ∙ at)
+        | inl same ↦ λ none. not_true (ap is_some (sym (get-remove-same m k) ∙ ap (get (remove m k)) (sym same.1) ∙ at))
+        | inr other ↦ some.some n q (sym (get-remove-other m k n other.1) ∙ at)
       ];
     }
-
-pub zero_len : (queue : Queue) (n : ℕ) → n ≡ len queue → n ≢ 0 → len queue ≢ 0
-zero_len queue n is some none = some (is ∙ none)
 
 -- ---- the next key
 

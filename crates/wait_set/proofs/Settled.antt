@@ -1,17 +1,16 @@
 -- What a walk that tests or touches leaves.
-use Rattle.std.proofs.Common.{◌≡◌, ℕ, ◌+◌, ◌≤◌, Bool, true, false, cond, ◌&&◌, ◌||◌, Option, Some, None, is_some, refl, sym, ap, ◌∙◌, arith}
+use Rattle.std.proofs.Common.{◌≡◌, ◌⊎◌, ℕ, ◌+◌, ◌<◌, ◌≤◌, Bool, true, false, cond, ◌&&◌, not, inl, inr, Option, Some, None, refl, sym, ap, subst, ◌∙◌, arith}
+use Rattle.std.proofs.lemmas.Bool.Decides.{eqb_tells}
 use Rattle.std.specs.Option.{option_map}
-use Rattle.std.specs.Ordering.{nat_cmp}
-use Rattle.std.specs.FinMap.{FinMap, get, insert, empty, contains_key}
+use Rattle.std.specs.FinMap.{get, insert}
 use Rattle.maps.specs.Halves.{not_true}
-use Rattle.maps.specs.Maps.{weight, total, total-empty, total-insert, total-insert_new, map_induction, insert_self, same_numbers}
-use Rattle.maps.specs.Closure.{changed, get-changed, changed-insert, total_below}
+use Rattle.maps.specs.Maps.{weight, total, total-empty, total-insert_new, map_induction, get-insert-same, get-insert-other}
+use Rattle.maps.specs.Closure.{get-changed, total_below}
 use Rattle.wait_set.specs.declared.waiting.Waiting.{Waiting}
 use Rattle.wait_set.specs.declared.spot.Spot.{Spot}
-use Rattle.wait_set.specs.Waits.{WaitMap, IsExact, IsExactBut, flag, counted, so_changed, where_so, tested, touched, is_left, is_ready, stands}
-use Rattle.wait_set.specs.Next.{IsNext}
-use Rattle.wait_set.proofs.Tying.{counted_none, next_same}
-use Rattle.wait_set.proofs.Walking.{fails_same}
+use Rattle.wait_set.specs.Waits.{WaitMap, AreTested, IsExact, flag, counted, so_changed, where_so, tested, touched, is_left, is_ready, is_up, stands}
+use Rattle.wait_set.specs.Next.{is_after, IsNext}
+use Rattle.wait_set.proofs.Tying.{counted_put}
 
 -- an entry of the changed set is one of the old, changed
 entry_before : (p : Waiting → Bool) (g : ℕ → Waiting → Waiting) (w : WaitMap) (t : ℕ) (s : Waiting) → get (where_so p g w) t ≡ Some s
@@ -21,36 +20,6 @@ entry_before p g w t s at =
       | None ↦ λ h. cc
       | Some r ↦ λ h. (r, refl, cc)
     ] (sym (get-changed (so_changed p g) w t) ∙ at)
-
--- those that were tested are marked exactly
-pub tested_exact : (p : Waiting → Bool) (left ready : ℕ → Bool) (w : WaitMap)
-    → IsExactBut (λ t. left t || flag p (get w t)) ready w → IsExactBut left ready (where_so p (λ t s. tested (ready t) s) w)
-tested_exact p left ready w exact t s at stays =
-    let was = entry_before p (λ q r. tested (ready q) r) w t s at in
-    elim (p was.0) as (λ b. p was.0 ≡ b → s ≡ cond b (tested (ready t) was.0) was.0 → s.ready ≡ ready t) [
-      | true ↦ λ _ is. ap (λ (r : Waiting). r.ready) is
-      | false ↦ λ fails is.
-          ap (λ (r : Waiting). r.ready) is
-          ∙ exact t was.0 was.1 (ap (λ b. b || flag p (get w t)) stays ∙ ap (flag p) was.1 ∙ fails)
-    ] refl was.2
-
--- those that were left
-pub left_exact : (ready : ℕ → Bool) (w : WaitMap) → IsExact ready w → IsExactBut (λ _. false) ready (where_so is_left (λ t s. tested (ready t) s) w)
-left_exact ready w exact =
-    tested_exact is_left (λ _. false) ready w (λ t s at not_left. exact t s at (sym (ap (flag is_left) at) ∙ not_left))
-
-flag_changed : (q p : Waiting → Bool) (g : ℕ → Waiting → Waiting) (w : WaitMap) (t : ℕ) → flag q (get (where_so p g w) t) ≡ flag q (option_map (so_changed p g t) (get w t))
-flag_changed q p g w t = ap (flag q) (get-changed (so_changed p g) w t)
-
-tested_not_left : (ready : ℕ → Bool) (t : ℕ) (o : Option Waiting) → flag is_left (option_map (so_changed is_left (λ u s. tested (ready u) s) t) o) ≡ false
-tested_not_left ready t None = refl
-tested_not_left ready t (Some s) =
-    elim s.left as (λ b. s.left ≡ b → (cond b (tested (ready t) s) s).left ≡ false) [ true ↦ λ _. refl | false ↦ λ e. e ] refl
-
-pub none_left : (ready : ℕ → Bool) (w : WaitMap) → counted is_left (where_so is_left (λ t s. tested (ready t) s) w) ≡ 0
-none_left ready w =
-    counted_none is_left (where_so is_left (λ t s. tested (ready t) s) w) (λ t.
-    flag_changed is_left is_left (λ u s. tested (ready u) s) w t ∙ tested_not_left ready t (get w t))
 
 -- ---- touched
 
@@ -80,10 +49,14 @@ touched_weight : (p : Waiting → Bool) (t : ℕ) (o : Option Waiting)
     → weight (λ s. cond (is_left s) 1 0) (option_map (so_changed p (λ _ s. touched s) t) o) ≤ weight (λ s. cond (is_left s) 1 0 + cond (p s) 1 0) o
 touched_weight p t None = omega arith
 touched_weight p t (Some s) =
-    elim (p s) as (λ b. p s ≡ b → cond (cond b (touched s) s).left 1 0 ≤ cond s.left 1 0 + cond b 1 0) [
-      | true ↦ λ _. omega arith
-      | false ↦ λ _. omega arith
-    ] refl
+    elim (p s) as (λ b. cond (is_left (cond b (touched s) s)) 1 0 ≤ cond (is_left s) 1 0 + cond b 1 0) [
+      | true ↦ let most = one_most (not s.runs) in omega arith
+      | false ↦ omega arith
+    ]
+  where
+    one_most : (b : Bool) → cond b 1 0 ≤ 1
+    one_most true = omega arith
+    one_most false = omega arith
 
 pub touched_count : (p : Waiting → Bool) (w : WaitMap) → counted is_left (where_so p (λ _ s. touched s) w) ≤ counted is_left w + counted p w
 touched_count p w =
@@ -103,37 +76,97 @@ stands_kept x p g same w t =
       | Some s ↦ elim (p s) as (λ b. stands x (cond b (g t s) s) ≡ stands x s) [ true ↦ same t s | false ↦ refl ]
     ]
 
--- ---- in any order
+-- ---- one thread is tested
 
--- what is left to do comes to the same once one was tested
-pub settle_step : (ready : ℕ → Bool) (w : WaitMap) (k : ℕ) (s : Waiting) → get w k ≡ Some s → s.left ≡ true
-    → where_so is_left (λ t x. tested (ready t) x) (insert w k (tested (ready k) s)) ≡ where_so is_left (λ t x. tested (ready t) x) w
-settle_step ready w k s at left =
-    changed-insert (so_changed is_left (λ t x. tested (ready t) x)) w k (tested (ready k) s)
-    ∙ insert_self (where_so is_left (λ t x. tested (ready t) x) w) k (tested (ready k) s)
-    (get-changed (so_changed is_left (λ t x. tested (ready t) x)) w k
-    ∙ ap (option_map (so_changed is_left (λ t x. tested (ready t) x) k)) at
-    ∙ ap (λ b. Some (cond b (tested (ready k) s) s)) left)
+pub tested_count : (b : Bool) (w : WaitMap) (k : ℕ) (s : Waiting) → get w k ≡ Some s → is_left s ≡ true → counted is_left (insert w k (tested b s)) + 1 ≡ counted is_left w
+tested_count b w k s at left =
+    let sum = counted_put is_left w k s (tested b s) at in
+    let here : cond {A = ℕ} (is_left s) 1 0 ≡ 1 = ap (λ a. cond {A = ℕ} a 1 0) left in
+    omega (arith, here, sum)
 
-pub settle_count : (b : Bool) (w : WaitMap) (k : ℕ) (s : Waiting) → get w k ≡ Some s → s.left ≡ true → counted is_left (insert w k (tested b s)) + 1 ≡ counted is_left w
-settle_count b w k s at left =
-    let sum = total-insert (λ x. cond (is_left x) 1 0) w k (tested b s) in
-    let here : weight (λ x. cond (is_left x) 1 0) (get w k) ≡ 1 = ap (weight (λ x. cond (is_left x) 1 0)) at ∙ ap (λ a. cond a 1 0) left in
-    omega arith
+pub tested_more : (ready : ℕ → Bool) (v w : WaitMap) (k : ℕ) (s : Waiting) → AreTested ready v w → get w k ≡ Some s → is_left s ≡ true
+    → AreTested ready v (insert w k (tested (ready k) s))
+tested_more ready v w k s done at left t =
+    elim (eqb_tells t k) [
+      | inl same ↦
+          subst (λ u. (get (insert w k (tested (ready k) s)) u ≡ get v u) ⊎ ((flag is_left (get v u) ≡ true) × (get (insert w k (tested (ready k) s)) u ≡ option_map (tested (ready u)) (get v u))))
+          (sym same.1)
+          (elim (done k) [
+            | inl kept ↦
+                let was : get v k ≡ Some s = sym kept ∙ at in
+                inr (ap (flag is_left) was ∙ left, get-insert-same w k (tested (ready k) s) ∙ sym (ap (option_map (tested (ready k))) was))
+            | inr past ↦ absurd (not_true (sym (not_left (ready k) (get v k)) ∙ ap (flag is_left) (sym past.1 ∙ at) ∙ left))
+          ])
+      | inr other ↦ subst (λ o. (o ≡ get v t) ⊎ ((flag is_left (get v t) ≡ true) × (o ≡ option_map (tested (ready t)) (get v t)))) (sym (get-insert-other w k (tested (ready k) s) t other.1)) (done t)
+    ]
+  where
+    not_left : (b : Bool) (o : Option Waiting) → flag is_left (option_map (tested b) o) ≡ false
+    not_left b None = refl
+    not_left b (Some r) = refl
 
-pub settle_end : (ready : ℕ → Bool) (w : WaitMap) → ((t : ℕ) → flag is_left (get w t) ≡ false) → w ≡ where_so is_left (λ t x. tested (ready t) x) w
-settle_end ready w none =
-    same_numbers w (where_so is_left (λ t x. tested (ready t) x) w) (λ t.
-    fails_same is_left (λ u x. tested (ready u) x) t (get w t) (none t) ∙ sym (get-changed (so_changed is_left (λ u x. tested (ready u) x)) w t))
+pub tested_exact : (ready : ℕ → Bool) (w : WaitMap) (k : ℕ) (s : Waiting) → IsExact ready w → IsExact ready (insert w k (tested (ready k) s))
+tested_exact ready w k s exact t r at =
+    elim (eqb_tells t k) [
+      | inl same ↦ λ _.
+          let is : Some (tested (ready k) s) ≡ Some r = sym (get-insert-same w k (tested (ready k) s)) ∙ ap (get (insert w k (tested (ready k) s))) (sym same.1) ∙ at in
+          let one : tested (ready k) s ≡ r = cc in
+          ap (λ (x : Waiting). x.ready) (sym one) ∙ ap ready (sym same.1)
+      | inr other ↦ exact t r (sym (get-insert-other w k (tested (ready k) s) t other.1) ∙ at)
+    ]
 
 -- ---- what the marks say
 
--- where each thread is marked exactly, the next marked thread is the next waiting one that is ready
-pub next_exact : (ready : ℕ → Bool) (w : WaitMap) (after r : Option ℕ) → IsExactBut (λ _. false) ready w
-    → IsNext (λ t. flag is_ready (get w t)) after r → IsNext (λ t. contains_key w t && ready t) after r
-next_exact ready w after r exact =
-    next_same (λ t. flag is_ready (get w t)) (λ t. contains_key w t && ready t) after r (λ t.
-    elim (get w t) as (λ o. get w t ≡ o → flag is_ready o ≡ (is_some o && ready t)) [
-      | None ↦ λ _. refl
-      | Some s ↦ λ at. exact t s at refl
-    ] refl)
+marked : (l r run u : Bool) → (l && not run) ≡ false → (l ≡ false → r ≡ u) → (r && not run) ≡ (not run && u)
+marked l true true u not_left is = refl
+marked l false true u not_left is = refl
+marked true r false u not_left is = absurd (not_true (sym not_left))
+marked false true false u not_left is = is refl
+marked false false false u not_left is = is refl
+
+-- a thread that isn't left is marked by whether it is ready
+up_by_mark : (ready : ℕ → Bool) (w : WaitMap) → IsExact ready w → (t : ℕ) → flag is_left (get w t) ≡ false → flag is_ready (get w t) ≡ is_up ready (get w t) t
+up_by_mark ready w exact t =
+    elim (get w t) as (λ o. get w t ≡ o → flag is_left o ≡ false → flag is_ready o ≡ is_up ready o t) [
+      | None ↦ λ _ _. refl
+      | Some s ↦ λ at not_left. marked s.left s.ready s.runs (ready t) not_left (exact t s at)
+    ] refl
+
+-- a marked thread before each that is left to be tested, after `after`
+abbrev pub IsBefore : WaitMap → Option ℕ → Type 0
+IsBefore w after = (t : ℕ) → is_after after t ≡ true → flag is_left (get w t) ≡ true → (k : ℕ) × (k < t) × (is_after after k ≡ true) × (flag is_ready (get w k) ≡ true)
+
+-- who is ready is the same where some were tested
+pub up_same : (ready : ℕ → Bool) (v w : WaitMap) → AreTested ready v w → (t : ℕ) → is_up ready (get w t) t ≡ is_up ready (get v t) t
+up_same ready v w done t =
+    elim (done t) [
+      | inl kept ↦ ap (λ o. is_up ready o t) kept
+      | inr past ↦ ap (λ o. is_up ready o t) past.1 ∙ elim (get v t) as (λ o. is_up ready (option_map (tested (ready t)) o) t ≡ is_up ready o t) [ None ↦ refl | Some s ↦ refl ]
+    ]
+
+-- then the next marked thread is the next ready one
+pub next_exact : (ready : ℕ → Bool) (w : WaitMap) (after r : Option ℕ) → IsExact ready w → IsBefore w after
+    → IsNext (λ t. flag is_ready (get w t)) after r → IsNext (λ t. is_up ready (get w t) t) after r
+next_exact ready w after None exact before none = λ t later.
+    elim (flag is_left (get w t)) as (λ b. flag is_left (get w t) ≡ b → is_up ready (get w t) t ≡ false) [
+      | true ↦ λ left. let one = before t later left in absurd (not_true (sym (none one.0 one.2) ∙ one.3))
+      | false ↦ λ tested_one. sym (up_by_mark ready w exact t tested_one) ∙ none t later
+    ] refl
+next_exact ready w after (Some k) exact before next = (
+  next.0,
+  elim (flag is_left (get w k)) as (λ b. flag is_left (get w k) ≡ b → is_up ready (get w k) k ≡ true) [
+    | true ↦ λ left.
+        let one = before k next.0 left in
+        let least = next.2 one.0 one.2 one.3 in
+        let less = one.1 in
+        absurd (omega arith)
+    | false ↦ λ tested_one. sym (up_by_mark ready w exact k tested_one) ∙ next.1
+  ] refl,
+  λ t later up. elim (flag is_left (get w t)) as (λ b. flag is_left (get w t) ≡ b → k ≤ t) [
+    | true ↦ λ left.
+        let one = before t later left in
+        let least = next.2 one.0 one.2 one.3 in
+        let less = one.1 in
+        omega arith
+    | false ↦ λ tested_one. next.2 t later (up_by_mark ready w exact t tested_one ∙ up)
+  ] refl,
+)

@@ -2,7 +2,7 @@
 --     put_packed, split_packed, gone_packed      a number more; a list that is made two; an empty list that is taken out
 --     joined_thick, joined_some      two lists that are made one, where they have few numbers
 --     place_low, place_high      the place of a number in the two
-use Rattle.std.proofs.Common.{◌≡◌, ◌≢◌, ◌⊎◌, ℕ, zero, suc, ◌+◌, ◌-◌, ◌<◌, ◌≤◌, true, false, List, [], ◌∷◌, ◌++◌, length, get_or, set, take, drop, append_assoc, inl, inr, refl, sym, ap, subst, ◌∙◌, arith}
+use Rattle.std.proofs.Common.{◌≡◌, ◌≢◌, ◌⊎◌, ℕ, ◌+◌, ◌-◌, ◌<◌, ◌≤◌, List, [], ◌∷◌, ◌++◌, length, get_or, set, take, drop, append_assoc, inl, inr, refl, sym, ap, subst, ◌∙◌, arith}
 use Rattle.std.specs.List.{insert, remove, concat}
 use Rattle.std.proofs.lemmas.Bool.{cases_lt}
 use Rattle.std.proofs.lemmas.Bool.Decides.{eqb_tells}
@@ -10,7 +10,7 @@ use Rattle.std.proofs.lemmas.List.{length-append, length-set, length-drop, take-
 use Rattle.std.proofs.lemmas.List.Edits.{length-insert, get_or-insert_below, get_or-insert_at, get_or-insert_above, length-remove, get_or-remove_below, get_or-remove_above}
 use Rattle.maps.specs.Closure.{member}
 use Rattle.wait_set.specs.Numbers.{IsAscending, IsPacked, IsPlace, IsJoined, HasSome, block, joined_at}
-use Rattle.wait_set.proofs.Packed.{list_set, list_split, list_gone, length-take, drop_past, take_whole, first_low, first_high, took_ascends}
+use Rattle.wait_set.proofs.Packed.{list_split, list_gone, length-take, drop_past, take_whole, first_low, first_high, took_ascends}
 
 -- how many numbers the list at k has
 abbrev pub size : List (List ℕ) → ℕ → ℕ

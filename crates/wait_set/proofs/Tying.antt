@@ -1,29 +1,27 @@
 -- What ties the sets and the queues to the threads' entries, as one of these changes.
-use Rattle.std.proofs.Common.{◌≡◌, ◌≢◌, ℕ, ◌+◌, ◌<◌, ◌≤◌, Bool, true, false, cond, ◌&&◌, ◌||◌, not, nat_lt, inl, inr, List, [], ◌∷◌, ◌++◌, length, take, get_or, append_assoc, Option, Some, None, IsSome, is_some, refl, sym, ap, subst, ◌∙◌, arith}
+use Rattle.std.proofs.Common.{◌≡◌, ℕ, ◌+◌, ◌-◌, ◌<◌, ◌≤◌, Bool, true, false, cond, ◌&&◌, ◌||◌, not, nat_lt, inl, inr, List, [], length, Option, Some, None, IsSome, is_some, refl, sym, ap, subst, ◌∙◌, arith}
 use Rattle.std.specs.Bool.{nat_eq}
-use Rattle.std.specs.List.{list_any, filter}
-use Rattle.std.specs.Option.{option_map, MatchOption}
+use mir.Val.{bool_byte}
+use Rattle.std.specs.Option.{option_map}
 use Rattle.std.specs.Ordering.{nat_cmp}
-use Rattle.std.specs.FinMap.{FinMap, get, len, empty, insert, remove, contains_key, get-empty, len-empty}
-use Rattle.std.proofs.lemmas.Bool.{lt-ltb, ltb-false, eqb-true}
+use Rattle.std.specs.FinMap.{get, len, empty, insert, remove, contains_key, get-empty, len-empty}
+use Rattle.std.proofs.lemmas.Bool.{lt-ltb, ltb-false}
 use Rattle.std.proofs.lemmas.Bool.Decides.{eqb_tells}
-use Rattle.std.proofs.lemmas.List.{take_more}
-use Rattle.std.proofs.lemmas.List.Folds.{list_any-append}
 use Rattle.maps.specs.Halves.{not_true}
-use Rattle.maps.specs.Maps.{weight, total, get-insert-same, get-insert-other, get-remove-same, get-remove-other, len-insert_new, len-insert_again, len-removed, remove_absent, insert-again, insert_self, same_around, total_none, total_same, total-zero}
-use Rattle.maps.specs.Closure.{member, total_ones}
+use Rattle.maps.specs.Maps.{weight, get-insert-same, get-insert-other, get-remove-same, get-remove-other, len-insert_new, len-insert_again, len-removed, remove_absent, total-insert, total-insert_new, total-remove, total_none, total_same, total-zero}
+use Rattle.maps.specs.Closure.{member, total_below, total_ones}
 use Rattle.wait_set.specs.declared.spot.Spot.{Spot}
 use Rattle.wait_set.specs.declared.spot.Spot.TheVariants.{Moment}
 use Rattle.wait_set.specs.declared.waiting.Waiting.{Waiting}
 use Rattle.wait_set.specs.declared.spot_queues.SpotQueues.{SpotQueues}
-use Rattle.wait_set.specs.Next.{is_after, IsNext}
+use Rattle.wait_set.specs.Next.{IsNext}
 use Rattle.wait_set.specs.Numbers.{Numbers, IsAscending}
 use Rattle.wait_set.specs.Queued.{QueueMap, has_at, stands_in, NoneEmpty}
-use Rattle.wait_set.specs.Spots.{kind, number, same_spot, listed}
+use Rattle.wait_set.specs.Spots.{listed}
 use Rattle.wait_set.specs.SpotQueues.{spot_has}
-use Rattle.wait_set.specs.Waits.{WaitMap, flag, lists, stands, is_ready, is_everywhere, is_left, counted, is_awaited}
+use Rattle.wait_set.specs.Waits.{WaitMap, flag, lists, stands, is_ready, is_everywhere, is_left, is_running, counted, is_awaited}
 use Rattle.wait_set.specs.Tied.{IsFlagged, IsTied}
-use Rattle.wait_set.proofs.Ascending.{length_below, length_less}
+use Rattle.wait_set.proofs.Ascending.{length_less}
 use Rattle.wait_set.proofs.Queueing.{Queue}
 
 -- ---- an entry that changes
@@ -40,15 +38,6 @@ flag_gone p w t u =
     elim (eqb_tells u t) [
       | inl same ↦ ap (λ q. flag p (get (remove w t) q)) same.1 ∙ ap (flag p) (get-remove-same w t) ∙ sym (ap (λ b. cond b false (flag p (get w u))) same.0)
       | inr other ↦ ap (flag p) (get-remove-other w t u other.1) ∙ sym (ap (λ b. cond b false (flag p (get w u))) other.0)
-    ]
-
--- where the entry passes as it did
-pub flag_kept : (p : Waiting → Bool) (w : WaitMap) (t : ℕ) (s new : Waiting) → get w t ≡ Some s → p new ≡ p s → (u : ℕ) → flag p (get (insert w t new) u) ≡ flag p (get w u)
-flag_kept p w t s new at same u =
-    flag_put p w t new u
-    ∙ elim (eqb_tells u t) [
-      | inl is ↦ ap (λ b. cond b (p new) (flag p (get w u))) is.0 ∙ same ∙ sym (ap (flag p) at) ∙ ap (λ q. flag p (get w q)) (sym is.1)
-      | inr other ↦ ap (λ b. cond b (p new) (flag p (get w u))) other.0
     ]
 
 -- where there was none, and the entry doesn't pass
@@ -74,39 +63,12 @@ flagged_put p w t new old set was here is up room =
       room = let size = len-insert_again w t new here in let most = was.room in omega arith;
     }
 
-pub flagged_kept : (p : Waiting → Bool) (w : WaitMap) (t : ℕ) (s new : Waiting) (set : Numbers) → IsFlagged p w set → get w t ≡ Some s → p new ≡ p s → IsFlagged p (insert w t new) set
-flagged_kept p w t s new set was at same =
-    record {
-      members = λ u. was.members u ∙ sym (flag_kept p w t s new at same u);
-      ascending = was.ascending;
-      room = let size = len-insert_again w t new (some_at w t s at) in let most = was.room in omega arith;
-    }
-
 pub flagged_begun : (p : Waiting → Bool) (w : WaitMap) (t : ℕ) (new : Waiting) (old set : Numbers) → IsFlagged p w old → get w t ≡ None → p new ≡ false
     → set.list ≡ old.list → len w + 1 ≤ set.room → IsFlagged p (insert w t new) set
 flagged_begun p w t new old set was at not_so same room =
     record {
       members = λ u. ap (member u) same ∙ was.members u ∙ sym (flag_begun p w t new at not_so u);
       ascending = subst IsAscending (sym same) was.ascending;
-      room = let size = len-insert_new w t new at in omega arith;
-    }
-
--- a set with more room
-pub flagged_roomier : (p : Waiting → Bool) (w : WaitMap) (old set : Numbers) → IsFlagged p w old → set.list ≡ old.list → old.room ≤ set.room → IsFlagged p w set
-flagged_roomier p w old set was same more =
-    record {
-      members = λ u. ap (member u) same ∙ was.members u;
-      ascending = subst IsAscending (sym same) was.ascending;
-      room = let most = was.room in omega arith;
-    }
-
--- where the one that begins is put in
-pub flagged_begun_in : (p : Waiting → Bool) (w : WaitMap) (t : ℕ) (new : Waiting) (old set : Numbers) → IsFlagged p w old → get w t ≡ None
-    → ((q : ℕ) → member q set.list ≡ cond (nat_eq q t) (p new) (member q old.list)) → IsAscending set.list → len w + 1 ≤ set.room → IsFlagged p (insert w t new) set
-flagged_begun_in p w t new old set was at is up room =
-    record {
-      members = λ u. is u ∙ ap (cond (nat_eq u t) (p new)) (was.members u) ∙ sym (flag_put p w t new u);
-      ascending = up;
       room = let size = len-insert_new w t new at in omega arith;
     }
 
@@ -144,27 +106,7 @@ room_for p w t set was here none =
     let most = was.room in
     omega arith
 
-pub room_for_new : (p : Waiting → Bool) (w : WaitMap) (old set : Numbers) → IsFlagged p w old → set.list ≡ old.list → len w + 1 ≤ set.room → length set.list < set.room
-room_for_new p w old set was same room =
-    let most = length_below Waiting old.list w was.ascending (keys p w old was) in
-    let is = ap (λ (xs : List ℕ). length xs) same in
-    omega arith
-
 -- ---- the queues
-
-or_last : (a b : Bool) → (a || (b || false)) ≡ (a || (b && true))
-or_last true b = refl
-or_last false true = refl
-or_last false false = refl
-
-or_false : (a b : Bool) → a ≡ (a || (b && false))
-or_false true b = refl
-or_false false true = refl
-or_false false false = refl
-
-and_last : (a b : Bool) → (a && not b) ≡ (a && not (b && true))
-and_last a true = refl
-and_last a false = refl
 
 and_none : (a b : Bool) → a ≡ (a && not (b && false))
 and_none true true = refl
@@ -174,79 +116,6 @@ and_none false b = refl
 and_not_self : (a : Bool) → false ≡ (a && not (a && true))
 and_not_self true = refl
 and_not_self false = refl
-
--- one more spot in the thread's list
-pub queued_more : (w : WaitMap) (t : ℕ) (s new : Waiting) (spot : Spot) → get w t ≡ Some s → new.spots ≡ s.spots ++ spot ∷ []
-    → (x : Spot) (u : ℕ) → (flag (lists x) (get w u) || (same_spot x spot && nat_eq u t)) ≡ flag (lists x) (get (insert w t new) u)
-queued_more w t s new spot at is x u =
-    sym (flag_put (lists x) w t new u
-    ∙ elim (eqb_tells u t) [
-      | inl same ↦
-          ap (λ b. cond b (lists x new) (flag (lists x) (get w u))) same.0
-          ∙ ap (listed x) is ∙ list_any-append (same_spot x) s.spots (spot ∷ []) ∙ or_last (lists x s) (same_spot x spot)
-          ∙ ap (λ b. b || (same_spot x spot && true)) (sym (ap (λ q. flag (lists x) (get w q)) same.1 ∙ ap (flag (lists x)) at))
-          ∙ ap (λ b. flag (lists x) (get w u) || (same_spot x spot && b)) (sym same.0)
-      | inr other ↦
-          ap (λ b. cond b (lists x new) (flag (lists x) (get w u))) other.0
-          ∙ or_false (flag (lists x) (get w u)) (same_spot x spot)
-          ∙ ap (λ b. flag (lists x) (get w u) || (same_spot x spot && b)) (sym other.0)
-    ])
-
-both : (a b : Bool) → (a && b) ≡ true → (a ≡ true) × (b ≡ true)
-both true b h = (refl, h)
-both false b h = absurd (not_true h)
-
--- what is the same spot as one is the same as another where that one is
-same_as : (x y z : Spot) → same_spot x y ≡ true → same_spot y z ≡ same_spot x z
-same_as x y z h =
-    let two = both (nat_eq (kind x) (kind y)) (nat_eq (number x) (number y)) h in
-    ap (λ k. nat_eq k (kind z) && nat_eq (number y) (number z)) (sym (eqb-true (kind x) (kind y) two.0))
-    ∙ ap (λ n. nat_eq (kind x) (kind z) && nat_eq n (number z)) (sym (eqb-true (number x) (number y) two.1))
-
-absorbed : (b m : Bool) → (m && not b) ≡ ((true || m) && not b) → (m && not b) ≡ (not b)
-absorbed true true h = refl
-absorbed true false h = refl
-absorbed false m h = h
-
--- the list without a spot
-pub listed_without : (x spot : Spot) (spots : List Spot) → listed x (filter (λ y. not (same_spot y spot)) spots) ≡ (listed x spots && not (same_spot x spot))
-listed_without x spot [] = refl
-listed_without x spot (y ∷ ys) =
-    elim (same_spot x y) as (λ a. same_spot x y ≡ a → listed x (filter (λ z. not (same_spot z spot)) (y ∷ ys)) ≡ ((a || listed x ys) && not (same_spot x spot))) [
-      | true ↦ λ same. elim (same_spot x spot) as (λ b. same_spot x spot ≡ b → listed x (filter (λ z. not (same_spot z spot)) (y ∷ ys)) ≡ ((true || listed x ys) && not b)) [
-        | true ↦ λ out.
-            ap (λ b. listed x (cond (not b) (y ∷ filter (λ z. not (same_spot z spot)) ys) (filter (λ z. not (same_spot z spot)) ys))) (same_as x y spot same ∙ out)
-            ∙ listed_without x spot ys ∙ ap (λ b. listed x ys && not b) out ∙ and_false (listed x ys)
-        | false ↦ λ stays.
-            ap (λ b. listed x (cond (not b) (y ∷ filter (λ z. not (same_spot z spot)) ys) (filter (λ z. not (same_spot z spot)) ys))) (same_as x y spot same ∙ stays)
-            ∙ ap (λ b. b || listed x (filter (λ z. not (same_spot z spot)) ys)) same
-      ] refl
-      | false ↦ λ other. elim (same_spot y spot) as (λ b. same_spot y spot ≡ b → listed x (cond (not b) (y ∷ filter (λ z. not (same_spot z spot)) ys) (filter (λ z. not (same_spot z spot)) ys)) ≡ (listed x ys && not (same_spot x spot))) [
-        | true ↦ λ _. listed_without x spot ys
-        | false ↦ λ _. ap (λ b. b || listed x (filter (λ z. not (same_spot z spot)) ys)) other ∙ listed_without x spot ys
-      ] refl
-    ] refl
-  where
-    and_false : (a : Bool) → (a && false) ≡ false
-    and_false true = refl
-    and_false false = refl
-
--- a spot fewer in the thread's list
-pub queued_fewer : (w : WaitMap) (t : ℕ) (s new : Waiting) (spot : Spot) → get w t ≡ Some s → new.spots ≡ filter (λ y. not (same_spot y spot)) s.spots
-    → (x : Spot) (u : ℕ) → (flag (lists x) (get w u) && not (same_spot x spot && nat_eq u t)) ≡ flag (lists x) (get (insert w t new) u)
-queued_fewer w t s new spot at is x u =
-    sym (flag_put (lists x) w t new u
-    ∙ elim (eqb_tells u t) [
-      | inl same ↦
-          ap (λ b. cond b (lists x new) (flag (lists x) (get w u))) same.0
-          ∙ ap (listed x) is ∙ listed_without x spot s.spots ∙ and_last (lists x s) (same_spot x spot)
-          ∙ ap (λ b. b && not (same_spot x spot && true)) (sym (ap (λ q. flag (lists x) (get w q)) same.1 ∙ ap (flag (lists x)) at))
-          ∙ ap (λ b. flag (lists x) (get w u) && not (same_spot x spot && b)) (sym same.0)
-      | inr other ↦
-          ap (λ b. cond b (lists x new) (flag (lists x) (get w u))) other.0
-          ∙ and_none (flag (lists x) (get w u)) (same_spot x spot)
-          ∙ ap (λ b. flag (lists x) (get w u) && not (same_spot x spot && b)) (sym other.0)
-    ])
 
 -- the thread with all its spots
 pub queued_gone : (w : WaitMap) (t : ℕ) (s : Waiting) → get w t ≡ Some s
@@ -324,33 +193,11 @@ either x (Some s) = refl
 pub stands_either : (x : Spot) (w : WaitMap) (t : ℕ) (b : Bool) → b ≡ flag is_everywhere (get w t) → (flag (lists x) (get w t) || b) ≡ flag (stands x) (get w t)
 stands_either x w t b is = ap (λ a. flag (lists x) (get w t) || a) is ∙ either x (get w t)
 
--- ---- a change that is undone
-
-pub undone : (w : WaitMap) (t : ℕ) (s new it last : Waiting) → get w t ≡ Some s → Some it ≡ get (insert w t new) t → (it ≡ new → last ≡ s) → insert (insert w t new) t last ≡ w
-undone w t s new it last at now back =
-    let same : Some it ≡ Some new = now ∙ get-insert-same w t new in
-    insert-again w t new last ∙ ap (λ r. insert w t r) (back (cc (same))) ∙ insert_self w t s at
-
--- ---- a thread that stands at several spots
+-- ---- entries
 
 pub some_entry : (w : WaitMap) (t : ℕ) → IsSome (get w t) → (s : Waiting) × (get w t ≡ Some s)
 some_entry w t some =
     elim (get w t) as (λ o. IsSome o → (s : Waiting) × (o ≡ Some s)) [ None ↦ λ h. absurd (not_true h) | Some s ↦ λ _. (s, refl) ] some
-
-pub remove_put : (w : WaitMap) (t : ℕ) (s : Waiting) → remove (insert w t s) t ≡ remove w t
-remove_put w t s =
-    same_around (remove (insert w t s) t) (remove w t) t
-    (get-remove-same (insert w t s) t ∙ sym (get-remove-same w t))
-    (λ u other. get-remove-other (insert w t s) t u other ∙ get-insert-other w t s u other ∙ sym (get-remove-other w t u other))
-
-pub placed_more : (spots : List Spot) (i : ℕ) (d : Spot) (xs : List Spot) → i < length spots
-    → (xs ++ take i spots) ++ get_or spots i d ∷ [] ≡ xs ++ take (i + 1) spots
-placed_more spots i d xs within = append_assoc xs (take i spots) (get_or spots i d ∷ []) ∙ ap (λ ys. xs ++ ys) (sym (take_more spots i d within))
-
--- where as many pass in one set as in another
-pub counted_same : (p q : Waiting → Bool) (v w : WaitMap) → ((t : ℕ) → flag p (get v t) ≡ flag q (get w t)) → counted p v ≡ counted q w
-counted_same p q v w same =
-    total_same (λ s. cond (p s) 1 0) (λ s. cond (q s) 1 0) v w (λ t. one_flag p (get v t) ∙ ap (λ b. cond b 1 0) (same t) ∙ sym (one_flag q (get w t)))
 
 pub weighs_none : (b : Bool) (n : ℕ) → n ≡ cond b 1 0 → n ≡ 0 → b ≡ false
 weighs_none true n is none = absurd (omega arith)
@@ -374,48 +221,157 @@ passing_counts p w t at =
     some_of_flag p None h = absurd (not_true h)
     some_of_flag p (Some s) h = refl
 
--- somebody awaits a moment exactly where it is in some thread's list
-pub awaited_by : (w : WaitMap) (n t : ℕ) → flag (lists (Moment n)) (get w t) ≡ true → is_awaited w n ≡ true
-awaited_by w n t = passing_counts (lists (Moment n)) w t
-
--- somebody passes exactly where one was found
-pub counted_some : (p : Waiting → Bool) (w : WaitMap) (r : Option ℕ) → MatchOption r ((t : ℕ) → flag p (get w t) ≡ false) (λ k. flag p (get w k) ≡ true) → is_some r ≡ nat_lt 0 (counted p w)
-counted_some p w None none = sym (ap (λ n. nat_lt 0 n) (counted_none p w none))
-counted_some p w (Some k) at = sym (passing_counts p w k at)
-
-pub first_found : (p : ℕ → Bool) (r : Option ℕ) → IsNext p None r → MatchOption r ((t : ℕ) → p t ≡ false) (λ k. p k ≡ true)
-first_found p None none = λ t. none t refl
-first_found p (Some k) next = next.1
+-- nobody passes where none is next
+pub none_next : (p : ℕ → Bool) (r : Option ℕ) → IsNext p None r → is_some r ≡ false → (t : ℕ) → p t ≡ false
+none_next p None none is = λ t. none t refl
+none_next p (Some k) next is = absurd (not_true (sym is))
 
 -- ---- an entry is taken out, or changed in place
 
--- a set without the thread
-abbrev pub IsOut : ℕ → Numbers → Numbers → Type 0
-IsOut t old new = ((q : ℕ) → member q new.list ≡ cond (nat_eq q t) false (member q old.list)) × IsAscending new.list × (new.room ≡ old.room)
+-- the thread's number put in a set, or taken out
+abbrev pub IsPut : ℕ → Bool → Numbers → Numbers → Type 0
+IsPut t b old new = ((q : ℕ) → member q new.list ≡ cond (nat_eq q t) b (member q old.list)) × IsAscending new.list × (new.room ≡ old.room)
 
-pub tied_gone : (w : WaitMap) (t : ℕ) (s : Waiting) (a b : SpotQueues) (ready ready_new everywhere everywhere_new left left_new : Numbers) (gone room gone_new room_new : ℕ)
-    → IsTied w a ready everywhere left gone room → get w t ≡ Some s
+pub put_as : (t : ℕ) (b c : Bool) (old new : Numbers) → b ≡ c → IsPut t b old new → IsPut t c old new
+put_as t b c old new is put = subst (λ a. IsPut t a old new) is put
+
+-- how many run, as one entry changes
+pub counted_put : (p : Waiting → Bool) (w : WaitMap) (t : ℕ) (s new : Waiting) → get w t ≡ Some s → counted p (insert w t new) + cond (p s) 1 0 ≡ counted p w + cond (p new) 1 0
+counted_put p w t s new at =
+    let sum = total-insert (λ x. cond (p x) 1 0) w t new in
+    let here : weight (λ x. cond (p x) 1 0) (get w t) ≡ cond (p s) 1 0 = ap (weight (λ x. cond (p x) 1 0)) at in
+    omega arith
+
+pub counted_begun : (p : Waiting → Bool) (w : WaitMap) (t : ℕ) (new : Waiting) → get w t ≡ None → counted p (insert w t new) ≡ counted p w + cond (p new) 1 0
+counted_begun p w t new none = total-insert_new (λ x. cond (p x) 1 0) w t new none
+
+pub counted_gone : (p : Waiting → Bool) (w : WaitMap) (t : ℕ) (s : Waiting) → get w t ≡ Some s → counted p (remove w t) + cond (p s) 1 0 ≡ counted p w
+counted_gone p w t s at =
+    let sum = total-remove (λ x. cond (p x) 1 0) w t in
+    let here : weight (λ x. cond (p x) 1 0) (get w t) ≡ cond (p s) 1 0 = ap (weight (λ x. cond (p x) 1 0)) at in
+    omega arith
+
+pub counted_most : (p : Waiting → Bool) (w : WaitMap) → counted p w ≤ len w
+counted_most p w =
+    let most = total_below (λ (x : Waiting). cond (p x) 1 0) (λ (_ : Waiting). 1) w w (λ q. one_most (get w q)) in
+    let ones = total_ones w in
+    omega arith
+  where
+    one_most : (o : Option Waiting) → weight (λ x. cond (p x) 1 0) o ≤ weight (λ _. 1) o
+    one_most None = omega arith
+    one_most (Some x) = elim (p x) as (λ b. cond b 1 0 ≤ 1) [ true ↦ omega arith | false ↦ omega arith ]
+
+-- a thread that runs counts as one of those that run
+bit : (b : Bool) → bool_byte b ≡ cond b 1 0
+bit true = refl
+bit false = refl
+
+pub bit_most : (b : Bool) → bool_byte b ≤ 1
+bit_most true = omega arith
+bit_most false = omega arith
+
+pub bit_not : (b : Bool) → bool_byte (not b) + cond b 1 0 ≡ 1
+bit_not true = refl
+bit_not false = refl
+
+pub runs_within : (w : WaitMap) (t : ℕ) (s : Waiting) (running one : ℕ) → get w t ≡ Some s → running ≡ counted is_running w → one ≡ bool_byte s.runs → one ≤ running
+runs_within w t s running one at is here =
+    let sum = counted_gone is_running w t s at in
+    let byte = bit s.runs in
+    omega arith
+
+pub runs_less : (w : WaitMap) (t : ℕ) (s : Waiting) (running one : ℕ) → get w t ≡ Some s → running ≡ counted is_running w → one ≡ bool_byte s.runs
+    → (running - one) + cond s.runs 1 0 ≡ running
+runs_less w t s running one at is here =
+    let most = runs_within w t s running one at is here in
+    let byte = bit s.runs in
+    omega arith
+
+-- an entry changes in place: who stands where, the sets, and how many run
+pub tied_put : (w : WaitMap) (t : ℕ) (s new : Waiting) (a b : SpotQueues) (ready ready_new everywhere everywhere_new left left_new : Numbers) (running running_new gone room : ℕ)
+    → IsTied w a ready everywhere left running gone room → get w t ≡ Some s
+    → ((x : Spot) (u : ℕ) → spot_has b x u ≡ cond (nat_eq u t) (listed x new.spots) (spot_has a x u))
+    → IsPut t (is_ready new) ready ready_new → IsPut t new.everywhere everywhere everywhere_new → IsPut t (is_left new) left left_new
+    → running_new + cond s.runs 1 0 ≡ running + cond new.runs 1 0
+    → IsTied (insert w t new) b ready_new everywhere_new left_new running_new gone room
+tied_put w t s new a b ready ready_new everywhere everywhere_new left left_new running running_new gone room was at queued r e l n =
+    let here = some_at w t s at in
+    record {
+      queued = λ x u. queued x u ∙ ap (λ q. cond (nat_eq u t) (listed x new.spots) q) (was.queued x u) ∙ sym (flag_put (lists x) w t new u);
+      ready_set = flagged_put is_ready w t new ready ready_new was.ready_set here r.0 r.1 r.2;
+      everywhere_set = flagged_put is_everywhere w t new everywhere everywhere_new was.everywhere_set here e.0 e.1 e.2;
+      left_set = flagged_put is_left w t new left left_new was.left_set here l.0 l.1 l.2;
+      runners = let sum = counted_put is_running w t s new at in let before = was.runners in omega arith;
+      gone_room = gone_put w t new gone room here was.gone_room;
+    }
+
+-- an entry is taken out
+pub tied_gone : (w : WaitMap) (t : ℕ) (s : Waiting) (a b : SpotQueues) (ready ready_new everywhere everywhere_new left left_new : Numbers) (running running_new gone room gone_new room_new : ℕ)
+    → IsTied w a ready everywhere left running gone room → get w t ≡ Some s
     → ((x : Spot) (u : ℕ) → spot_has b x u ≡ (spot_has a x u && not (listed x s.spots && nat_eq u t)))
-    → IsOut t ready ready_new → IsOut t everywhere everywhere_new → IsOut t left left_new → len (remove w t) + gone_new ≤ room_new
-    → IsTied (remove w t) b ready_new everywhere_new left_new gone_new room_new
-tied_gone w t s a b ready ready_new everywhere everywhere_new left left_new gone room gone_new room_new was at queued r e l more =
+    → IsPut t false ready ready_new → IsPut t false everywhere everywhere_new → IsPut t false left left_new
+    → running_new + cond s.runs 1 0 ≡ running → len (remove w t) + gone_new ≤ room_new
+    → IsTied (remove w t) b ready_new everywhere_new left_new running_new gone_new room_new
+tied_gone w t s a b ready ready_new everywhere everywhere_new left left_new running running_new gone room gone_new room_new was at queued r e l n more =
     record {
       queued = λ x u. queued x u ∙ ap (λ q. q && not (listed x s.spots && nat_eq u t)) (was.queued x u) ∙ queued_gone w t s at x u;
       ready_set = flagged_gone is_ready w t ready ready_new was.ready_set r.0 r.1 r.2;
       everywhere_set = flagged_gone is_everywhere w t everywhere everywhere_new was.everywhere_set e.0 e.1 e.2;
       left_set = flagged_gone is_left w t left left_new was.left_set l.0 l.1 l.2;
+      runners = let sum = counted_gone is_running w t s at in let before = was.runners in omega arith;
       gone_room = more;
     }
 
--- the thread's list is another one
-pub queued_put : (w : WaitMap) (t : ℕ) (new : Waiting) (spots : List Spot) → new.spots ≡ spots
-    → (x : Spot) (u : ℕ) → cond (nat_eq u t) (listed x spots) (flag (lists x) (get w u)) ≡ flag (lists x) (get (insert w t new) u)
-queued_put w t new spots is x u = ap (λ xs. cond (nat_eq u t) (listed x xs) (flag (lists x) (get w u))) (sym is) ∙ sym (flag_put (lists x) w t new u)
+-- whether the number is in is what the entry says
+pub known_at : (p : Waiting → Bool) (w : WaitMap) (t : ℕ) (s : Waiting) (set : Numbers) (b : Bool) → IsFlagged p w set → get w t ≡ Some s → b ≡ p s → b ≡ member t set.list
+known_at p w t s set b was at is = is ∙ sym (ap (flag p) at) ∙ sym (was.members t)
 
--- it is empty
-pub queued_none : (w : WaitMap) (t : ℕ) (s new : Waiting) → get w t ≡ Some s → new.spots ≡ []
-    → (x : Spot) (u : ℕ) → (flag (lists x) (get w u) && not (listed x s.spots && nat_eq u t)) ≡ flag (lists x) (get (insert w t new) u)
-queued_none w t s new at none x u = queued_gone w t s at x u ∙ flag_gone (lists x) w t u ∙ queued_put w t new [] none x u
+-- a set in which the number is as it was
+pub put_kept : (p : Waiting → Bool) (w : WaitMap) (t : ℕ) (s : Waiting) (set : Numbers) (b : Bool) → IsFlagged p w set → get w t ≡ Some s → b ≡ p s → IsPut t b set set
+put_kept p w t s set b was at same = (
+  λ q. elim (eqb_tells q t) [
+    | inl is ↦
+        was.members q ∙ ap (λ k. flag p (get w k)) is.1 ∙ ap (flag p) at ∙ sym same
+        ∙ sym (ap (λ c. cond c b (member q set.list)) is.0)
+    | inr other ↦ sym (ap (λ c. cond c b (member q set.list)) other.0)
+  ],
+  was.ascending,
+  refl,
+)
+
+-- the queues, where the thread's list is as it was
+pub queued_kept : (w : WaitMap) (t : ℕ) (s : Waiting) (a : SpotQueues) → ((x : Spot) (u : ℕ) → spot_has a x u ≡ flag (lists x) (get w u)) → get w t ≡ Some s
+    → (x : Spot) (u : ℕ) → spot_has a x u ≡ cond (nat_eq u t) (listed x s.spots) (spot_has a x u)
+queued_kept w t s a was at x u =
+    elim (eqb_tells u t) [
+      | inl is ↦
+          was x u ∙ ap (λ k. flag (lists x) (get w k)) is.1 ∙ ap (flag (lists x)) at
+          ∙ sym (ap (λ c. cond c (listed x s.spots) (spot_has a x u)) is.0)
+      | inr other ↦ sym (ap (λ c. cond c (listed x s.spots) (spot_has a x u)) other.0)
+    ]
+
+-- the queues, where those spots of the thread's list are given up that aren't in the new one
+pub queued_less : (w : WaitMap) (t : ℕ) (s : Waiting) (a b : SpotQueues) (spots : List Spot) (out : Spot → Bool)
+    → ((x : Spot) (u : ℕ) → spot_has a x u ≡ flag (lists x) (get w u)) → get w t ≡ Some s
+    → ((x : Spot) (u : ℕ) → spot_has b x u ≡ (spot_has a x u && not (out x && nat_eq u t)))
+    → ((x : Spot) → listed x spots ≡ (listed x s.spots && not (out x)))
+    → (x : Spot) (u : ℕ) → spot_has b x u ≡ cond (nat_eq u t) (listed x spots) (spot_has a x u)
+queued_less w t s a b spots out was at less is x u =
+    less x u ∙ elim (eqb_tells u t) [
+      | inl same ↦
+          ap (λ c. spot_has a x u && not (out x && c)) same.0
+          ∙ ap (λ c. c && not (out x && true)) (was x u ∙ ap (λ k. flag (lists x) (get w k)) same.1 ∙ ap (flag (lists x)) at)
+          ∙ ap (λ c. listed x s.spots && not c) (and_true (out x)) ∙ sym (is x)
+          ∙ sym (ap (λ c. cond c (listed x spots) (spot_has a x u)) same.0)
+      | inr other ↦
+          ap (λ c. spot_has a x u && not (out x && c)) other.0
+          ∙ sym (and_none (spot_has a x u) (out x))
+          ∙ sym (ap (λ c. cond c (listed x spots) (spot_has a x u)) other.0)
+    ]
+  where
+    and_true : (b : Bool) → (b && true) ≡ b
+    and_true true = refl
+    and_true false = refl
 
 -- one entry changed, each other as it was
 pub put_at : (f : Waiting → Waiting) (w : WaitMap) (t : ℕ) (s : Waiting) → get w t ≡ Some s → (k : ℕ) → get (insert w t (f s)) k ≡ cond (nat_eq k t) (option_map f (get w k)) (get w k)

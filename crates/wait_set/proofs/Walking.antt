@@ -4,15 +4,14 @@
 --     remaining p after w      how many threads after `after` pass
 --     remaining_first, remaining_step, remaining_last      it falls by one at each step
 --     next_before      the next thread was the next one before the walk
-use Rattle.std.proofs.Common.{◌≡◌, ◌≢◌, ℕ, ◌+◌, ◌<◌, ◌≤◌, Bool, true, false, cond, nat_lt, inl, inr, Option, Some, None, is_some, refl, sym, ap, subst, ◌∙◌, arith}
+use Rattle.std.proofs.Common.{◌≡◌, ◌≢◌, ℕ, ◌+◌, Bool, true, false, cond, nat_lt, inl, inr, Option, Some, None, refl, sym, ap, subst, ◌∙◌, arith}
 use Rattle.std.specs.Option.{option_map}
-use Rattle.std.specs.Ordering.{nat_cmp}
-use Rattle.std.specs.FinMap.{FinMap, get, insert, remove, retain_keys}
+use Rattle.std.specs.FinMap.{get, insert, remove, retain_keys}
 use Rattle.std.proofs.lemmas.Bool.{lt-ltb, le-ltb, ltb-true, ltb-false}
 use Rattle.std.proofs.lemmas.Bool.Decides.{eqb_tells}
 use Rattle.maps.specs.Halves.{not_true}
-use Rattle.maps.specs.Maps.{weight, total, get-insert-same, get-insert-other, get-remove-same, get-remove-other, get-retain, same_numbers, total-remove, total_same}
-use Rattle.maps.specs.Closure.{changed, get-changed}
+use Rattle.maps.specs.Maps.{weight, get-insert-same, get-insert-other, get-remove-same, get-remove-other, get-retain, same_numbers, total-remove, total_same}
+use Rattle.maps.specs.Closure.{get-changed}
 use Rattle.wait_set.specs.declared.waiting.Waiting.{Waiting}
 use Rattle.wait_set.specs.Next.{is_after, IsNext}
 use Rattle.wait_set.specs.Waits.{WaitMap, flag, counted, so_changed, where_so}

@@ -8,6 +8,7 @@ mod block;
 mod blocks;
 mod number_set;
 mod packing;
+mod queue;
 mod queues;
 mod ranges;
 mod settling;
@@ -15,12 +16,11 @@ mod spot;
 mod spot_list;
 mod spot_queues;
 mod steps;
-#[cfg(test)]
-mod tests;
 mod wait_set;
 mod waiting;
 
 pub use number_set::NumberSet;
+pub use queue::Queue;
 pub use queues::Queues;
 pub use spot::Spot;
 pub use spot_list::SpotList;

@@ -1,5 +1,5 @@
 //! A set of numbers in order, with room that is made before it is needed.
-ghost use Rattle.std.specs.Prelude.{◌≡◌, ◌≤◌, ◌<◌, ◌&&◌, ◌||◌, ℕ, [], length, not, nat_eq, true, false, cond, MatchOption, OnOk};
+ghost use Rattle.std.specs.Prelude.{◌≡◌, ◌≤◌, ◌<◌, ◌&&◌, ◌||◌, ℕ, [], length, not, nat_eq, true, false, cond, OnOk};
 ghost use Rattle.maps.specs.Closure.{member};
 ghost use Rattle.wait_set.specs.Next.{IsNext};
 ghost use Rattle.wait_set.specs.Numbers.{IsAscending};
@@ -53,29 +53,22 @@ impl NumberSet {
         Ok(())
     }
 
-    /// Whether the number is in.
-    pub fn contains(&self, number: u64) -> bool
-        ensures answer { result ≡ member number self.now.list }
-        ensures ascending { IsAscending self.now.list }
-    {
-        if self.blocks.len() == 0 {
-            return false;
-        }
-        let index = find(&self.blocks, number);
-        self.blocks.at(index).place(number).is_ok()
-    }
-
-    /// Puts a number in, or takes it out. Takes no memory: for one that isn't in yet there is room.
-    pub fn put(&mut self, number: u64, is_in: bool)
-        requires { is_in ≡ true → member number self.old.list ≡ false → length self.old.list < self.old.room }
+    /// Puts a number in, or takes it out, of which it is known whether it is in: it takes no time where that stays. Takes no memory: for
+    /// one that isn't in yet there is room.
+    pub fn change(&mut self, number: u64, was_in: bool, is_in: bool)
+        requires known { was_in ≡ member number self.old.list }
+        requires room { is_in ≡ true → member number self.old.list ≡ false → length self.old.list < self.old.room }
         ensures member { (q : ℕ) → member q self.new.list ≡ cond (nat_eq q number) is_in (member q self.old.list) }
-        ensures ascending { IsAscending self.new.list }
+        ensures ascending { IsAscending self.old.list → IsAscending self.new.list }
         ensures room { self.new.room ≡ self.old.room }
     {
-        if !is_in {
-            self.remove(number);
-        } else if !self.contains(number) {
+        if was_in == is_in {
+            return;
+        }
+        if is_in {
             self.insert(number);
+        } else {
+            self.remove(number);
         }
     }
 
@@ -133,17 +126,5 @@ impl NumberSet {
         } else {
             None
         }
-    }
-
-    /// The greatest number, if there is one.
-    pub fn last(&self) -> Option<u64>
-        ensures { MatchOption result (self.now.list ≡ []) (λ q. member q self.now.list ≡ true) }
-    {
-        let count = self.blocks.len();
-        if count == 0 {
-            return None;
-        }
-        let last = self.blocks.at(count - 1);
-        Some(last.at(last.len() - 1))
     }
 }

@@ -4,6 +4,7 @@ ghost use Rattle.std.specs.FinMap as map;
 ghost use Rattle.wait_set.specs.Next.{IsNext};
 ghost use Rattle.wait_set.specs.Queued.{has_at, NoneEmpty};
 
+use crate::queue::Queue;
 use maps::NumMap;
 use std::alloc::{AllocError, Global};
 use std::marker::Model;
@@ -15,7 +16,7 @@ use std::marker::Model;
 #[derive(Drop)]
 pub struct Queues {
     alloc: Global,
-    by_number: NumMap<NumMap<()>>,
+    by_number: NumMap<Queue>,
 }
 
 impl Model for Queues {
@@ -50,11 +51,10 @@ impl Queues {
         ensures err { OnErr result (self.new ≡ self.old) }
     {
         if self.by_number.contains(number) {
-            self.by_number.get_mut(number).insert(thread, ())?;
+            self.by_number.get_mut(number).stand(thread)?;
             return Ok(());
         }
-        let mut queue = NumMap::new(self.alloc);
-        queue.insert(thread, ())?;
+        let queue = Queue::new(self.alloc, thread);
         self.by_number.insert(number, queue)?;
         Ok(())
     }
@@ -63,14 +63,14 @@ impl Queues {
     pub fn leave(&mut self, number: u64, thread: u64)
         ensures { (n t : ℕ) → has_at self.new n t ≡ (has_at self.old n t && not (nat_eq n number && nat_eq t thread)) }
     {
-        if !self.by_number.contains(number) {
+        let Some(queue) = self.by_number.get(number) else {
+            return;
+        };
+        if queue.is_only(thread) {
+            self.by_number.remove(number);
             return;
         }
-        let queue = self.by_number.get_mut(number);
-        queue.remove(thread);
-        if queue.is_empty() {
-            self.by_number.remove(number);
-        }
+        self.by_number.get_mut(number).leave(thread);
     }
 
     /// The next thread after `after` that stands at the number.
@@ -78,7 +78,7 @@ impl Queues {
         ensures { IsNext (λ t. has_at self.now number t) after result }
     {
         let queue = self.by_number.get(number)?;
-        next_key(queue, after)
+        queue.next(after)
     }
 
     /// The next number after `after` at which somebody stands.
@@ -91,7 +91,7 @@ impl Queues {
 }
 
 // The least key after `after`, or of all where that is `None`.
-fn next_key<V>(entries: &NumMap<V>, after: Option<u64>) -> Option<u64>
+pub(crate) fn next_key<V>(entries: &NumMap<V>, after: Option<u64>) -> Option<u64>
     ensures { IsNext (λ q. map.contains_key entries.now q) after result }
 {
     match after {

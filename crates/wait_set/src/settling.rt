@@ -1,10 +1,10 @@
 //! What settles the marks of the waiting threads after a change.
-ghost use Rattle.std.specs.Prelude.{◌≡◌, ◌+◌, ◌≤◌, ◌&&◌, ◌||◌, nat_le, ℕ, Bool, true, false, Some, IsSome};
+ghost use Rattle.std.specs.Prelude.{◌≡◌, ◌+◌, ◌<◌, ◌≤◌, ◌&&◌, nat_le, ℕ, Bool, true, false, None, Some, IfSome};
 ghost use Rattle.std.specs.FinMap as map;
-ghost use Rattle.wait_set.specs.Next.{IsNext};
+ghost use Rattle.wait_set.specs.Next.{is_after, IsNext};
 ghost use Rattle.wait_set.specs.declared.spot.Spot.{Spot};
 ghost use Rattle.wait_set.specs.declared.waiting.Waiting.{Waiting};
-ghost use Rattle.wait_set.specs.Waits.{IsExact, IsExactBut, counted, flag, is_awaited, is_due, is_everywhere, is_left, lists, stands, tested, touched, where_so};
+ghost use Rattle.wait_set.specs.Waits.{AreTested, IsExact, counted, flag, is_awaited, is_due, is_everywhere, is_left, is_ready, is_up, lists, stands, tested, touched, where_so};
 
 use crate::spot::Spot;
 use crate::steps::{Parts, Steps};
@@ -12,14 +12,9 @@ use crate::wait_set::WaitSet;
 use std::sync::ledger::Ledger;
 
 impl WaitSet {
-    /// Tests the thread, which waits, and marks it by what comes of it. Takes no memory.
-    pub fn settle_thread<P: Parts, L: Ledger>(
-        &mut self,
-        parts: &P,
-        thread: u64,
-        steps: &mut Steps<L>,
-    )
-        requires { IsSome (map.get self.old thread) }
+    // Tests the thread, which waits, and marks it by what comes of it.
+    fn settle_thread<P: Parts, L: Ledger>(&mut self, parts: &P, thread: u64, steps: &mut Steps<L>)
+        requires { flag is_left (map.get self.old thread) ≡ true }
         ensures marks { (s : Waiting) → map.get self.old thread ≡ Some s → self.new ≡ map.insert self.old thread (tested (P.ready parts.now thread) s) }
         ensures cost { steps.new ≡ steps.old + 1 }
     {
@@ -27,34 +22,37 @@ impl WaitSet {
         self.mark(thread, ready);
     }
 
-    /// Tests each thread that stands at the spot, once, and marks it by what comes of it. Takes no memory.
+    /// The ready thread with the least number after `after`, or of all where that is `None`. On the way to it those are tested, once each, that
+    /// wait and are left to be, and marked by what comes of it. Takes no memory.
     ///
-    /// `exact`: where a change may concern those at the spot and others, only the others are left.
-    pub fn settle<P: Parts, L: Ledger>(&mut self, parts: &P, spot: Spot, steps: &mut Steps<L>)
-        ensures marks { self.new ≡ where_so (stands spot) (λ t s. tested (P.ready parts.now t) s) self.old }
-        ensures places { (x : Spot) (t : ℕ) → flag (stands x) (map.get self.new t) ≡ flag (stands x) (map.get self.old t) }
-        ensures cost { steps.new ≡ steps.old + counted (stands spot) self.old }
-        ensures exact { (left : ℕ → Bool) → IsExactBut (λ t. left t || flag (stands spot) (map.get self.old t)) (P.ready parts.now) self.old → IsExactBut left (P.ready parts.now) self.new }
+    /// `next`: where each thread that isn't left is marked by whether it is ready, no ready thread is missed.
+    pub fn next_settled<P: Parts, L: Ledger>(
+        &mut self,
+        parts: &P,
+        after: Option<u64>,
+        steps: &mut Steps<L>,
+    ) -> Option<u64>
+        ensures marks { AreTested (P.ready parts.now) self.old self.new }
+        ensures cost { steps.new + counted is_left self.new ≡ steps.old + counted is_left self.old }
+        ensures exact { IsExact (P.ready parts.now) self.old → IsExact (P.ready parts.now) self.new }
+        ensures next { IsExact (P.ready parts.now) self.old → IsNext (λ t. is_up (P.ready parts.now) (map.get self.old t) t) after result }
     {
-        let mut after = None;
-        while let Some(thread) = self.next_standing(spot, after) {
+        while let Some(thread) = self.next_test(after) {
             self.settle_thread(parts, thread, steps);
-            after = Some(thread);
         }
+        self.next_ready(after)
     }
 
-    /// Tests each thread that is left to be tested, once, and marks it by what comes of it. Then none is left. Takes no memory.
-    ///
-    /// `exact`: where each thread that isn't left is marked by whether it is ready, each thread is from here on.
-    pub fn settle_all<P: Parts, L: Ledger>(&mut self, parts: &P, steps: &mut Steps<L>)
-        ensures marks { self.new ≡ where_so is_left (λ t s. tested (P.ready parts.now t) s) self.old }
-        ensures places { (x : Spot) (t : ℕ) → flag (stands x) (map.get self.new t) ≡ flag (stands x) (map.get self.old t) }
-        ensures cost { steps.new ≡ steps.old + counted is_left self.old }
-        ensures exact { IsExact (P.ready parts.now) self.old → IsExactBut (λ _. false) (P.ready parts.now) self.new }
-        ensures none_left { counted is_left self.new ≡ 0 }
+    // The first thread after `after` that waits and is left to be tested, unless one before it is marked as ready.
+    fn next_test(&self, after: Option<u64>) -> Option<u64>
+        ensures left { IfSome result (λ t. flag is_left (map.get self.now t) ≡ true) }
+        ensures none { result ≡ None → (t : ℕ) → is_after after t ≡ true → flag is_left (map.get self.now t) ≡ true
+            → (k : ℕ) × (k < t) × (is_after after k ≡ true) × (flag is_ready (map.get self.now k) ≡ true) }
     {
-        while let Some(thread) = self.last_left() {
-            self.settle_thread(parts, thread, steps);
+        let left = self.next_left(after)?;
+        match self.next_ready(after) {
+            Some(ready) if ready < left => None,
+            _ => Some(left),
         }
     }
 

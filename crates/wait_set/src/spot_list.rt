@@ -1,8 +1,8 @@
 //! A list of spots.
-ghost use Rattle.std.specs.Prelude.{◌≡◌, ◌&&◌, ◌++◌, ◌∷◌, [], List, not, IfOk, OnOk, OnErr};
+ghost use Rattle.std.specs.Prelude.{◌≡◌, ◌++◌, ◌∷◌, List, [], length, take, true, OnOk, OnErr};
 ghost use Rattle.std.specs.List.{filter};
-ghost use Rattle.wait_set.specs.Spots.{same_spot, listed};
 ghost use Rattle.wait_set.specs.declared.spot.Spot.{Spot};
+ghost use Rattle.wait_set.specs.Waits.{lasts};
 
 use crate::spot::Spot;
 use std::alloc::{AllocError, Global};
@@ -33,15 +33,6 @@ impl SpotList {
         }
     }
 
-    /// These spots. `Err` where memory ran out.
-    pub fn from_slice(alloc: Global, spots: &[Spot]) -> Result<Self, AllocError>
-        ensures { IfOk result (λ list. list ≡ spots.now) }
-    {
-        Ok(SpotList {
-            spots: Vec::from_slice(alloc, spots)?,
-        })
-    }
-
     /// The spots.
     pub fn as_slice(&self) -> &[Spot]
         ensures { result.now ≡ self.now }
@@ -49,7 +40,37 @@ impl SpotList {
         self.spots.as_slice()
     }
 
-    /// Puts a spot at the end.
+    /// How many spots there are.
+    pub fn len(&self) -> usize
+        ensures { result ≡ length self.now }
+    {
+        self.spots.len()
+    }
+
+    /// Whether these spots begin with those of the list.
+    pub fn is_front_of(&self, spots: &[Spot]) -> bool
+        ensures { result ≡ true → take (length self.now) spots.now ≡ self.now }
+    {
+        let count = self.spots.len();
+        if spots.len() < count {
+            return false;
+        }
+        for (place, spot) in self.spots.iter().enumerate() {
+            if !spot.is_same(spots[place]) {
+                return false;
+            }
+        }
+        true
+    }
+
+    /// Makes room for so many spots in all. `Err` where memory ran out.
+    pub fn make_room(&mut self, count: usize) -> Result<(), AllocError>
+        ensures { self.new ≡ self.old }
+    {
+        self.spots.reserve(count.saturating_sub(self.spots.len()))
+    }
+
+    /// Puts a spot at the end. `Err` where memory ran out, and changes nothing.
     pub fn push(&mut self, spot: Spot) -> Result<(), AllocError>
         ensures ok { OnOk result (self.new ≡ self.old ++ spot ∷ []) }
         ensures err { OnErr result (self.new ≡ self.old) }
@@ -65,25 +86,20 @@ impl SpotList {
         self.spots.pop();
     }
 
-    /// Takes a spot out, wherever it stands in the list.
-    pub fn remove(&mut self, spot: Spot)
-        ensures { self.new ≡ filter (λ x. not (same_spot x spot)) self.old }
+    /// Takes all spots out, and keeps the memory.
+    pub fn clear(&mut self)
+        ensures { self.new ≡ [] }
     {
-        let stays = |other: &Spot| -> bool
-            ensures { result ≡ not (same_spot other.now spot) }
-        { !other.is_same(spot) };
+        self.spots.clear();
+    }
+
+    /// Takes out those that are moments.
+    pub fn drop_moments(&mut self)
+        ensures { self.new ≡ filter lasts self.old }
+    {
+        let stays = |spot: &Spot| -> bool
+            ensures { result ≡ lasts spot.now }
+        { !matches!(spot, Spot::Moment(_)) };
         self.spots.retain(stays);
     }
-}
-
-/// Whether the spot is among these.
-pub(crate) fn is_listed(spot: Spot, spots: &[Spot]) -> bool
-    ensures { result ≡ listed spot spots.now }
-{
-    for other in spots {
-        if spot.is_same(*other) {
-            return true;
-        }
-    }
-    false
 }

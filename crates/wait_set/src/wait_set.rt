@@ -1,14 +1,15 @@
-//! The set of waiting threads.
-ghost use Rattle.std.specs.Prelude.{◌≡◌, ◌&&◌, ◌||◌, ◌++◌, ◌∷◌, [], ℕ, Bool, Option, true, false, None, Some, cond, nat_eq, nat_lt, not, option_map, IsSome, MatchOption, OnOk, OnErr};
-ghost use Rattle.std.specs.List.{filter};
+//! The set of threads that wait or run.
+ghost use Rattle.std.specs.Prelude.{◌≡◌, ◌||◌, ◌++◌, ◌∷◌, [], ℕ, Bool, Option, true, false, None, Some, cond, length, nat_eq, nat_lt, option_map, take, IsSome, OnOk, OnErr};
 ghost use Rattle.std.specs.FinMap as map;
 ghost use Rattle.wait_set.specs.Next.{IsNext};
-ghost use Rattle.wait_set.specs.Spots.{same_spot};
 ghost use Rattle.wait_set.specs.declared.spot.Spot.{Spot};
 ghost use Rattle.wait_set.specs.declared.waiting.Waiting.{Waiting};
-ghost use Rattle.wait_set.specs.Waits.{counted, flag, fresh, is_awaited, is_everywhere, is_ready, is_left, lists, stands, tested, touched};
+ghost use Rattle.wait_set.specs.Spots.{listed};
+ghost use Rattle.wait_set.specs.SpotQueues.{spot_has};
+ghost use Rattle.wait_set.specs.Waits.{counted, flag, fresh, is_awaited, is_everywhere, is_left, is_ready, is_running, lists, mark_of, resting, running, stands, tested, touched, IsStood};
 
 use crate::number_set::NumberSet;
+use crate::queues::next_key;
 use crate::spot::Spot;
 use crate::spot_list::SpotList;
 use crate::spot_queues::SpotQueues;
@@ -17,11 +18,11 @@ use maps::NumMap;
 use std::alloc::{AllocError, Global};
 use std::marker::Model;
 
-/// The waiting threads by number. In contracts it is a finite map from each to where it stands and how it is marked.
+/// The threads that wait or run, by number. In contracts it is a finite map from each to where it stands, how it is marked, and whether
+/// it runs. One that runs again keeps its places, but for moments: one that waits in the same call again and again takes none anew.
 ///
-/// To begin, to stand somewhere more and to leave take the logarithm of how many threads wait, for each place that is taken or
-/// given up. Memory is taken by `begin`, `stand_at`, `stand_anew` and `park`
-/// alone.
+/// To begin, to stand somewhere and to leave take the logarithm of how many threads there are, for each place that is taken or given
+/// up. Memory is taken by `begin` and `stand_anew` alone.
 #[derive(Drop)]
 pub struct WaitSet {
     pub(crate) alloc: Global,
@@ -30,9 +31,9 @@ pub struct WaitSet {
     pub(crate) ready: NumberSet,
     pub(crate) everywhere: NumberSet,
     pub(crate) left: NumberSet,
+    // How many threads run.
+    running: usize,
     gone: Vec<u64>,
-    // Whether some thread became ready, or went, since that was last told.
-    news: bool,
 }
 
 impl Model for WaitSet {
@@ -49,11 +50,11 @@ impl Model for WaitSet {
 
     ghost view = { λ a. a.threads };
 
-    ghost invariant = { λ a. IsTied a.threads a.queues a.ready a.everywhere a.left (length a.gone.items) (vec_capacity a.gone) };
+    ghost invariant = { λ a. IsTied a.threads a.queues a.ready a.everywhere a.left a.running (length a.gone.items) (vec_capacity a.gone) };
 }
 
 impl WaitSet {
-    /// Nobody waits. Takes no memory.
+    /// No thread. Takes no memory.
     pub fn new(alloc: Global) -> Self
         ensures { result ≡ map.empty }
     {
@@ -64,20 +65,33 @@ impl WaitSet {
             ready: NumberSet::new(alloc),
             everywhere: NumberSet::new(alloc),
             left: NumberSet::new(alloc),
+            running: 0,
             gone: Vec::new(alloc),
-            news: false,
         }
     }
 
-    /// Whether the thread waits.
+    /// How many threads there are.
+    pub fn len(&self) -> usize
+        ensures { result ≡ map.len self.now }
+    {
+        self.threads.len()
+    }
+
+    /// Whether there is no thread.
+    pub fn is_empty(&self) -> bool
+        ensures { result ≡ nat_eq (map.len self.now) 0 }
+    {
+        self.threads.len() == 0
+    }
+
+    /// Whether the thread is in.
     pub fn contains(&self, thread: u64) -> bool
         ensures { result ≡ map.contains_key self.now thread }
     {
         self.threads.contains(thread)
     }
 
-    /// The thread waits from here on. It stands nowhere yet, and is left to be tested. `Err` where memory ran out: then nothing has
-    /// changed.
+    /// The thread is in from here on. It runs, and stands nowhere. `Err` where memory ran out: then nothing has changed.
     pub fn begin(&mut self, thread: u64) -> Result<(), AllocError>
         requires { map.get self.old thread ≡ None }
         ensures ok { OnOk result (self.new ≡ map.insert self.old thread fresh) }
@@ -93,104 +107,79 @@ impl WaitSet {
             everywhere: false,
             ready: false,
             left: true,
+            runs: true,
         };
         self.threads.insert(thread, waiting)?;
-        self.left.put(thread, true);
+        self.running += 1;
         Ok(())
     }
 
-    /// The thread, which waits, stands at the spot too from here on. `Err` where memory ran out: then nothing has changed.
-    pub fn stand_at(&mut self, spot: Spot, thread: u64) -> Result<(), AllocError>
+    /// The thread, which is in, stands at these spots alone from here on, and where memory ran out everywhere. Spots at the front of the
+    /// list at which it stands by that list take no time.
+    pub fn stand_anew(&mut self, thread: u64, spots: &[Spot])
         requires { IsSome (map.get self.old thread) }
-        ensures ok { (s : Waiting) → map.get self.old thread ≡ Some s → OnOk result (self.new ≡ map.insert self.old thread (record s { spots = s.spots ++ spot ∷ [] })) }
-        ensures places { OnOk result ((x : Spot) (t : ℕ) → flag (lists x) (map.get self.new t) ≡ (flag (lists x) (map.get self.old t) || (same_spot x spot && nat_eq t thread))) }
-        ensures err { OnErr result (self.new ≡ self.old) }
+        ensures there { (s : Waiting) → map.get self.old thread ≡ Some s
+            → (w : Waiting) × (self.new ≡ map.insert self.old thread w) × IsStood spots.now s w }
     {
-        self.threads.get_mut(thread).spots.push(spot)?;
-        if let Err(failed) = self.queues.stand_at(spot, thread) {
-            self.threads.get_mut(thread).spots.pop();
-            return Err(failed);
-        }
-        Ok(())
-    }
-
-    /// The thread waits from here on at the spots, and is left to be tested. `Err` where memory ran out: then nothing has changed.
-    pub fn park(&mut self, thread: u64, spots: &[Spot]) -> Result<(), AllocError>
-        requires { map.get self.old thread ≡ None }
-        ensures ok { OnOk result (self.new ≡ map.insert self.old thread (record fresh { spots = spots.now })) }
-        ensures err { OnErr result (self.new ≡ self.old) }
-    {
-        self.begin(thread)?;
-        if let Err(failed) = self.stand_anew(thread, spots) {
-            self.remove(thread);
-            return Err(failed);
-        }
-        Ok(())
-    }
-
-    /// The thread, which waits, stands at these spots alone from here on. `Err` where memory ran out: then nothing has changed.
-    pub fn stand_anew(&mut self, thread: u64, spots: &[Spot]) -> Result<(), AllocError>
-        requires { IsSome (map.get self.old thread) }
-        ensures ok { (s : Waiting) → map.get self.old thread ≡ Some s → OnOk result (self.new ≡ map.insert self.old thread (record s { spots = spots.now; everywhere = false })) }
-        ensures err { OnErr result (self.new ≡ self.old) }
-    {
-        let list = SpotList::from_slice(self.alloc, spots)?;
         let waiting = self.threads.get_mut(thread);
-        self.queues
-            .exchange(waiting.spots.as_slice(), spots, thread)?;
-        waiting.spots = list;
+        let stands = take_anew(&mut waiting.spots, &mut self.queues, spots, thread);
+        let everywhere = stands.is_err();
+        self.everywhere
+            .change(thread, waiting.everywhere, everywhere);
+        waiting.everywhere = everywhere;
+    }
+
+    /// The thread, which is in, runs from here on. It keeps the spots of its list that are no moments. Takes no memory.
+    pub fn run(&mut self, thread: u64)
+        requires { IsSome (map.get self.old thread) }
+        ensures { (s : Waiting) → map.get self.old thread ≡ Some s → self.new ≡ map.insert self.old thread (running s) }
+    {
+        let waiting = self.threads.get_mut(thread);
+        self.queues.leave_moments(waiting.spots.as_slice(), thread);
+        self.ready.change(thread, waiting.is_ready(), false);
+        self.everywhere.change(thread, waiting.everywhere, false);
+        self.left.change(thread, waiting.is_left(), false);
+        self.running += usize::from(!waiting.runs);
+        waiting.spots.drop_moments();
         waiting.everywhere = false;
-        self.everywhere.put(thread, false);
-        Ok(())
+        waiting.ready = false;
+        waiting.left = true;
+        waiting.runs = true;
     }
 
-    /// The thread, which waits, stands nowhere from here on, and is left to be tested. Takes no memory.
-    pub fn clear(&mut self, thread: u64)
+    /// The thread, which is in, waits from here on, and is left to be tested or not. Takes no memory.
+    pub fn rest(&mut self, thread: u64, is_left: bool)
         requires { IsSome (map.get self.old thread) }
-        ensures { self.new ≡ map.insert self.old thread fresh }
+        ensures { (s : Waiting) → map.get self.old thread ≡ Some s → self.new ≡ map.insert self.old thread (resting is_left s) }
     {
-        let waiting = self.threads.replace(
-            thread,
-            Waiting {
-                spots: SpotList::new(self.alloc),
-                everywhere: false,
-                ready: false,
-                left: true,
-            },
-        );
-        self.queues.leave_all(waiting.spots.as_slice(), thread);
-        self.ready.put(thread, false);
-        self.everywhere.put(thread, false);
-        self.left.put(thread, true);
+        let waiting = self.threads.get_mut(thread);
+        self.ready.change(thread, waiting.is_ready(), false);
+        self.left.change(thread, waiting.is_left(), is_left);
+        self.running -= usize::from(waiting.runs);
+        waiting.ready = false;
+        waiting.left = is_left;
+        waiting.runs = false;
     }
 
-    /// The thread, which waits, no longer stands at the spot by its list. Takes no memory.
-    pub fn leave_at(&mut self, spot: Spot, thread: u64)
-        requires { IsSome (map.get self.old thread) }
-        ensures places { (x : Spot) (t : ℕ) → flag (lists x) (map.get self.new t) ≡ (flag (lists x) (map.get self.old t) && not (same_spot x spot && nat_eq t thread)) }
-        ensures entry { (s : Waiting) → map.get self.old thread ≡ Some s → self.new ≡ map.insert self.old thread (record s { spots = filter (λ x. not (same_spot x spot)) s.spots }) }
-    {
-        self.threads.get_mut(thread).spots.remove(spot);
-        self.queues.leave_at(spot, thread);
-    }
-
-    /// The thread, which waits, stands at each spot from here on, or at those of its list alone. Takes no memory.
+    /// The thread, which is in, stands at each spot from here on, or at those of its list alone. Takes no memory.
     pub fn spread(&mut self, thread: u64, everywhere: bool)
         requires { IsSome (map.get self.old thread) }
         ensures { (s : Waiting) → map.get self.old thread ≡ Some s → self.new ≡ map.insert self.old thread (record s { everywhere = everywhere }) }
     {
-        self.threads.get_mut(thread).everywhere = everywhere;
-        self.everywhere.put(thread, everywhere);
+        let waiting = self.threads.get_mut(thread);
+        self.everywhere
+            .change(thread, waiting.everywhere, everywhere);
+        waiting.everywhere = everywhere;
     }
 
-    /// The thread waits no longer, and stands nowhere. Takes no memory, and the time of the places that it has.
+    /// The thread is no longer in, and stands nowhere. Takes no memory, and the time of the places that it has.
     pub fn remove(&mut self, thread: u64)
         ensures { self.new ≡ map.remove self.old thread }
     {
         self.take_out(thread, false);
     }
 
-    // The thread waits no longer, and stands nowhere. It is put on the list of those that are gone, if it is to be noted.
+    // The thread is no longer in, and stands nowhere. It is put on the list of those that are gone, if it is to be noted.
     pub(crate) fn take_out(&mut self, thread: u64, is_noted: bool)
         ensures { self.new ≡ map.remove self.old thread }
     {
@@ -198,27 +187,20 @@ impl WaitSet {
             return;
         };
         self.queues.leave_all(waiting.spots.as_slice(), thread);
-        self.ready.put(thread, false);
-        self.everywhere.put(thread, false);
-        self.left.put(thread, false);
+        self.ready.change(thread, waiting.is_ready(), false);
+        self.everywhere.change(thread, waiting.everywhere, false);
+        self.left.change(thread, waiting.is_left(), false);
+        self.running -= usize::from(waiting.runs);
         if is_noted {
             self.gone.push(thread).unwrap();
-            self.news = true;
         }
     }
 
-    /// Whether there is a thread that `remove_between` took out and `take_gone` hasn't told yet.
-    pub fn has_gone(&self) -> bool {
-        !self.gone.is_empty()
-    }
-
-    /// Whether some thread was marked as ready that wasn't before, or was taken out by `remove_between`, since this was last asked.
-    pub fn take_news(&mut self) -> bool
-        ensures { self.new ≡ self.old }
+    /// Whether a thread waits and is left to be tested, or `take_gone` has one to tell.
+    pub fn has_news(&self) -> bool
+        ensures { result ≡ false → (t : ℕ) → flag is_left (map.get self.now t) ≡ false }
     {
-        let news = self.news;
-        self.news = false;
-        news
+        self.has_left() || !self.gone.is_empty()
     }
 
     /// A thread that `remove_between` took out, each once. Takes no memory.
@@ -237,66 +219,83 @@ impl WaitSet {
         }
     }
 
-    // The thread, which waits, is left to be tested.
+    // The thread, which is in, is left to be tested.
     pub(crate) fn leave(&mut self, thread: u64)
         requires { IsSome (map.get self.old thread) }
         ensures { (s : Waiting) → map.get self.old thread ≡ Some s → self.new ≡ map.insert self.old thread (touched s) }
     {
-        self.threads.get_mut(thread).left = true;
-        self.left.put(thread, true);
+        let waiting = self.threads.get_mut(thread);
+        self.left.change(thread, waiting.is_left(), !waiting.runs);
+        waiting.left = true;
     }
 
     // The thread, which waits, is marked as ready or not, and is no longer left to be tested.
     pub(crate) fn mark(&mut self, thread: u64, ready: bool)
-        requires { IsSome (map.get self.old thread) }
+        requires there { IsSome (map.get self.old thread) }
+        requires waits { flag is_running (map.get self.old thread) ≡ false }
         ensures { (s : Waiting) → map.get self.old thread ≡ Some s → self.new ≡ map.insert self.old thread (tested ready s) }
     {
         let waiting = self.threads.get_mut(thread);
-        let turns = ready && !waiting.ready;
+        self.ready.change(thread, waiting.is_ready(), ready);
+        self.left.change(thread, waiting.is_left(), false);
         waiting.ready = ready;
         waiting.left = false;
-        self.news = self.news || turns;
-        self.ready.put(thread, ready);
-        self.left.put(thread, false);
     }
 
-    /// The next ready thread after `after`, as they are marked. It tests none.
-    pub fn next_ready(&self, after: Option<u64>) -> Option<u64>
+    /// How a thread that waits is marked: whether it is ready. `None` where there is none, it runs, or it is left to be tested.
+    pub fn marked(&self, thread: u64) -> Option<bool>
+        ensures { result ≡ mark_of (map.get self.now thread) }
+    {
+        let waiting = self.threads.get(thread)?;
+        if waiting.left || waiting.runs {
+            None
+        } else {
+            Some(waiting.ready)
+        }
+    }
+
+    // The next thread after `after` that waits and is marked as ready.
+    pub(crate) fn next_ready(&self, after: Option<u64>) -> Option<u64>
         ensures { IsNext (λ t. flag is_ready (map.get self.now t)) after result }
     {
         self.ready.next(after)
     }
 
-    /// Whether some thread is marked as ready.
-    pub fn has_ready(&self) -> bool
-        ensures exact { result ≡ nat_lt 0 (counted is_ready self.now) }
-        ensures none { result ≡ false → (t : ℕ) → flag is_ready (map.get self.now t) ≡ false }
+    // The next thread after `after` that waits and is left to be tested.
+    pub(crate) fn next_left(&self, after: Option<u64>) -> Option<u64>
+        ensures { IsNext (λ t. flag is_left (map.get self.now t)) after result }
     {
-        self.next_ready(None).is_some()
+        self.left.next(after)
     }
 
-    /// Whether some thread is left to be tested.
-    pub fn has_left(&self) -> bool
-        ensures exact { result ≡ nat_lt 0 (counted is_left self.now) }
-        ensures none { result ≡ false → (t : ℕ) → flag is_left (map.get self.now t) ≡ false }
+    // Whether some thread waits and is left to be tested.
+    fn has_left(&self) -> bool
+        ensures { result ≡ false → (t : ℕ) → flag is_left (map.get self.now t) ≡ false }
     {
-        self.last_left().is_some()
+        self.next_left(None).is_some()
     }
 
-    // A thread that is left to be tested, if there is one.
-    pub(crate) fn last_left(&self) -> Option<u64>
-        ensures { MatchOption result ((t : ℕ) → flag is_left (map.get self.now t) ≡ false) (λ k. flag is_left (map.get self.now k) ≡ true) }
+    /// Whether some thread runs.
+    pub fn has_running(&self) -> bool
+        ensures { result ≡ nat_lt 0 (counted is_running self.now) }
     {
-        self.left.last()
+        self.running > 0
     }
 
-    /// The next thread after `after` that stands at the spot.
-    pub fn next_standing(&self, spot: Spot, after: Option<u64>) -> Option<u64>
+    // The next thread after `after` that stands at the spot.
+    pub(crate) fn next_standing(&self, spot: Spot, after: Option<u64>) -> Option<u64>
         ensures { IsNext (λ t. flag (stands spot) (map.get self.now t)) after result }
     {
         let queued = self.queues.next(spot, after);
         let spread = self.everywhere.next(after);
         earlier(queued, spread)
+    }
+
+    /// The next thread after `after`.
+    pub fn next_thread(&self, after: Option<u64>) -> Option<u64>
+        ensures { IsNext (λ t. map.contains_key self.now t) after result }
+    {
+        next_key(&self.threads, after)
     }
 
     /// The next thread after `after` that stands at each spot.
@@ -330,4 +329,64 @@ fn earlier(first: Option<u64>, second: Option<u64>) -> Option<u64>
         (Some(one), None) => Some(one),
         (None, other) => other,
     }
+}
+
+// Takes these places, and gives up the thread's own unless they are at the front of the list. `Err` where memory ran out: then some are
+// its own.
+fn take_anew(
+    own: &mut SpotList,
+    queues: &mut SpotQueues,
+    spots: &[Spot],
+    thread: u64,
+) -> Result<(), AllocError>
+    requires { (x : Spot) → spot_has queues.old x thread ≡ listed x own.old }
+    ensures stands { (x : Spot) (t : ℕ) → spot_has queues.new x t ≡ cond (nat_eq t thread) (listed x own.new) (spot_has queues.old x t) }
+    ensures ok { OnOk result (own.new ≡ spots.now) }
+{
+    if own.is_front_of(spots) {
+        return take_rest(own, queues, spots, thread);
+    }
+    queues.leave_all(own.as_slice(), thread);
+    own.clear();
+    take_rest(own, queues, spots, thread)
+}
+
+// Takes the places of the list behind the thread's own, which are the front of it. `Err` where memory ran out: then some are its own.
+fn take_rest(
+    own: &mut SpotList,
+    queues: &mut SpotQueues,
+    spots: &[Spot],
+    thread: u64,
+) -> Result<(), AllocError>
+    requires stands { (x : Spot) → spot_has queues.old x thread ≡ listed x own.old }
+    requires front { take (length own.old) spots.now ≡ own.old }
+    ensures stands { (x : Spot) (t : ℕ) → spot_has queues.new x t ≡ cond (nat_eq t thread) (listed x own.new) (spot_has queues.old x t) }
+    ensures ok { OnOk result (own.new ≡ spots.now) }
+{
+    own.make_room(spots.len())?;
+    let first = own.len();
+    for place in first..spots.len() {
+        take_place(own, queues, spots[place], thread)?;
+    }
+    Ok(())
+}
+
+// Takes one more place. `Err` where memory ran out: then nothing has changed.
+fn take_place(
+    own: &mut SpotList,
+    queues: &mut SpotQueues,
+    spot: Spot,
+    thread: u64,
+) -> Result<(), AllocError>
+    requires { (x : Spot) → spot_has queues.old x thread ≡ listed x own.old }
+    ensures stands { (x : Spot) (t : ℕ) → spot_has queues.new x t ≡ cond (nat_eq t thread) (listed x own.new) (spot_has queues.old x t) }
+    ensures ok { OnOk result (own.new ≡ own.old ++ spot ∷ []) }
+    ensures err { OnErr result (own.new ≡ own.old) }
+{
+    own.push(spot)?;
+    if let Err(error) = queues.stand_at(spot, thread) {
+        own.pop();
+        return Err(error);
+    }
+    Ok(())
 }

@@ -1,7 +1,7 @@
 use Rattle.std.proofs.Common.{arith}
 use Rattle.std.specs.FinMap.{get}
 use Rattle.kernel_core.specs.Readiness.{places_by_key}
-use Rattle.kernel_core.proofs.HeldEntries.{either_way, flagged, gathered_more, gathered_none}
+use Rattle.kernel_core.proofs.HeldEntries.{flagged, gathered_more, gathered_none}
 use Rattle.kernel_core.proofs.Walking.{next_behind}
 use Rattle.wait_set.specs.Waits.{is_everywhere}
 use Rattle.kernel_core.proofs.readiness.gather.Goals as goal
@@ -20,4 +20,4 @@ stand_anew-requires c = flagged is_everywhere (get c.loop-key.waits c.in-Some.ke
 pub loop-key-preserved : goal.loop-key-preserved
 loop-key-preserved c =
     gathered_more (places_by_key c.args.objects.now.kinds c.args.tables.now c.args.processes.now) c.in-Some.key c.args.waits.now c.loop-key.waits c.stand_anew.new.waits
-    c.loop-key.invariant (either_way c.stand_anew.result c.stand_anew.ensures.ok c.stand_anew.ensures.err)
+    c.loop-key.invariant (flagged is_everywhere (get c.loop-key.waits c.in-Some.key) c.in-Some.ensures.1) c.stand_anew.ensures

@@ -1,5 +1,5 @@
 use Rattle.std.specs.Prelude.{◌-◌, ◌^◌}
-use Rattle.kernel_parts.proofs.Activities.{passed}
+use Rattle.kernel_parts.proofs.Walks.{passed}
 use Rattle.kernel_core.specs.Readiness.{places_by_key, IsGathered}
 use Rattle.kernel_core.proofs.readiness.gather.Given as goal
 

@@ -6,7 +6,7 @@ use Rattle.tree_model.specs.Changes.{is_above}
 use Rattle.kernel_model.specs.State.{ProcessState}
 use Rattle.kernel_parts.specs.Keys.{is_own, key}
 use Rattle.kernel_parts.specs.Touching.{spread_if, waits_on}
-use Rattle.kernel_parts.proofs.Activities.{next_above}
+use Rattle.kernel_parts.proofs.Walks.{next_above}
 use Rattle.kernel_parts.proofs.Concerned.{spread_all, spread_none, spread_on}
 use Rattle.kernel_parts.proofs.touching.touch_number.Goals as goal
 

@@ -1,6 +1,6 @@
 use Rattle.std.specs.Prelude.{◌-◌, ◌^◌}
 use Rattle.kernel_parts.specs.Touching.{HasEach, spread_if}
-use Rattle.kernel_parts.proofs.Activities.{passed}
+use Rattle.kernel_parts.proofs.Walks.{passed}
 use Rattle.kernel_parts.proofs.Concerned.{done_until}
 use Rattle.kernel_parts.proofs.touching.touch_number.Given as goal
 

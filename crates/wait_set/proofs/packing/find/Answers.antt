@@ -1,4 +1,4 @@
-use Rattle.std.proofs.Common.{◌≡◌, ◌+◌, ◌<◌, length, arith}
+use Rattle.std.proofs.Common.{◌≡◌, ◌+◌, arith}
 use Rattle.wait_set.proofs.Packed.{place_found}
 use Rattle.wait_set.proofs.packing.find.Goals as goal
 

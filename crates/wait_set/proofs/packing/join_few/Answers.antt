@@ -1,4 +1,4 @@
-use Rattle.std.proofs.Common.{◌≡◌, ◌+◌, ◌<◌, List, ℕ, length, ap, ◌∙◌, arith}
+use Rattle.std.proofs.Common.{◌+◌, ◌<◌, List, ℕ, length, ap, ◌∙◌, arith}
 use Rattle.std.specs.List.{concat}
 use Rattle.wait_set.proofs.Packed.{list_joined}
 use Rattle.wait_set.proofs.packing.join_few.Goals as goal

@@ -1,9 +1,9 @@
-use Rattle.std.proofs.Common.{◌≡◌, ◌≢◌, ℕ, ◌+◌, ◌-◌, ◌<◌, ◌≤◌, List, [], ◌++◌, length, get_or, set, take, drop, sym, ap, subst, ◌∙◌, arith}
+use Rattle.std.proofs.Common.{◌≡◌, ◌≢◌, ℕ, ◌+◌, ◌<◌, ◌≤◌, List, [], length, set, sym, ap, subst, ◌∙◌, arith}
 use Rattle.std.specs.List.{concat, remove}
 use Rattle.std.proofs.lemmas.List.{get_or-set_same}
 use Rattle.wait_set.specs.Numbers.{IsAscending, IsPacked, IsJoined, HasSome, block}
 use Rattle.wait_set.proofs.Packed.{list_set, took_ascends}
-use Rattle.wait_set.proofs.Thick.{took_gone, took_some, took_many, took_packed, took_first, joined_some, joined_within}
+use Rattle.wait_set.proofs.Thick.{took_gone, took_some, took_many, took_packed, took_first, joined_some}
 use Rattle.wait_set.proofs.packing.take_at.Goals as goal
 
 pub returns-then-len-eq0-clause-packed : goal.returns-then-len-eq0-clause-packed

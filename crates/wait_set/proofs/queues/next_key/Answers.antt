@@ -1,4 +1,4 @@
-use Rattle.std.proofs.Common.{◌≡◌, ℕ, Option, None, Some, nat_le, nat_lt, refl, sym, subst, arith}
+use Rattle.std.proofs.Common.{ℕ, Option, None, Some, nat_le, nat_lt, refl, sym, subst, arith}
 use Rattle.std.specs.FinMap as map
 use Rattle.std.proofs.lemmas.Bool.{le-leb}
 use Rattle.wait_set.specs.Next.{IsNext}

@@ -1,13 +1,11 @@
 use Rattle.std.proofs.Common.{List, sym, ap, subst, ◌∙◌}
 use Rattle.run_types.specs.declared.history.Act.{Act}
 use Rattle.run_types.specs.declared.history.Entry.{Entry}
-use Rattle.kernel_model.specs.State.{State}
 use Rattle.shared_history.specs.Passes.{Later, Passing, seen_of}
 use Rattle.kernel_cell.specs.Acting.{Became, IsActedOn, MayCome}
 use Rattle.kernel_cell.specs.Recorded.{IsRecorded}
 use Rattle.kernel_cell.specs.declared.results.After.{After}
 use Rattle.kernel_cell.proofs.PassOutcomes.{acted_here, asks_here, is_seen, seen_here}
-use Rattle.kernel_cell.proofs.RecordedSteps.{deadlines_there}
 use Rattle.kernel_cell.proofs.locked.Locked.act.Goals as goal
 
 pub enter-came-requires-clause-recorded : goal.enter-came-requires-clause-recorded
@@ -39,8 +37,8 @@ hand_out-requires-clause-seen g c =
 pub returns-clause-recorded : goal.returns-clause-recorded
 returns-clause-recorded g c =
     let it = c.enter-came.new.self in
-    subst (λ (x : List Entry × State). IsRecorded g.J.Naming.launch g.J.Naming.keeps_all x.0 x.1 it.constants it.kept)
-    (λ i. (sym (ap (λ k. k.log) c.hand_out.ensures.keeper) i, sym c.tell_news.ensures i)) c.enter-came.ensures.recorded
+    subst (λ (h : List Entry). IsRecorded g.J.Naming.launch g.J.Naming.keeps_all h it.kernel it.constants it.kept)
+    (sym (ap (λ k. k.log) c.hand_out.ensures.keeper)) c.enter-came.ensures.recorded
 
 pub returns-clause-pass : goal.returns-clause-pass
 returns-clause-pass g c =
@@ -71,6 +69,3 @@ returns-clause-history g c =
 
 pub returns-clause-seen : goal.returns-clause-seen
 returns-clause-seen g c = ap (λ v. v.seen) (c.drop.view_is ∙ c.hand_out.ensures.pass) ∙ sym (ap (λ k. k.log) c.hand_out.ensures.keeper)
-
-pub tell_news-requires : goal.tell_news-requires
-tell_news-requires g c = deadlines_there c.enter-came.ensures.recorded

@@ -6,7 +6,7 @@ use Rattle.call_codec.proofs.Puts.{may_map_for}
 use Rattle.kernel_core.specs.Waiting.{caller}
 use Rattle.run_model.specs.Own.{one_of}
 use Rattle.run_model.specs.World.{Guest, world, registers_of, called_guest}
-use Rattle.kernel_cell.specs.Afterwards.{unless_lost}
+use Rattle.kernel_cell.specs.Results.{unless_lost}
 use Rattle.kernel_cell.proofs.EntryEffects.{call_encoded}
 use Rattle.kernel_cell.proofs.Programs.{begun_or_lost, may_begin}
 use Rattle.shared_history.specs.declared.entries.EntryHead.{EntryHead}

@@ -1,12 +1,10 @@
 use Rattle.std.proofs.Common.{List, sym, ap, subst, ◌∙◌}
 use Rattle.run_types.specs.declared.history.Entry.{Entry}
-use Rattle.kernel_model.specs.State.{State}
 use Rattle.shared_history.specs.Passes.{IsSeen, Later, Passing, seen_of}
 use Rattle.kernel_cell.specs.Acting.{HasForked, HasSeen, IsForkedOn, by_number}
 use Rattle.kernel_cell.specs.Recorded.{IsRecorded}
 use Rattle.kernel_cell.specs.declared.results.Asked.TheVariants as asked
 use Rattle.kernel_cell.proofs.PassOutcomes.{asks_call_here, first_held, fork_hands, fork_seen, held_then, is_seen, none_behind, seen_here}
-use Rattle.kernel_cell.proofs.RecordedSteps.{deadlines_there}
 use Rattle.kernel_cell.proofs.locked.Locked.fork.Goals as goal
 
 pub make_child-forked-requires-clause-recorded : goal.make_child-forked-requires-clause-recorded
@@ -57,9 +55,8 @@ hand_out-requires-clause-seen g c =
 pub returns-clause-recorded : goal.returns-clause-recorded
 returns-clause-recorded g c =
     let it = c.make_child-forked.new.self in
-    subst (λ (x : List Entry × State). IsRecorded g.J.Naming.launch g.J.Naming.keeps_all x.0 x.1 it.constants it.kept)
-    (λ i. (sym (ap (λ k. k.log) c.hand_out.ensures.keeper ∙ ap (λ k. k.log) c.with_pass-child.ensures.keeper) i, sym c.tell_news.ensures i))
-    c.make_child-forked.ensures.recorded
+    subst (λ (h : List Entry). IsRecorded g.J.Naming.launch g.J.Naming.keeps_all h it.kernel it.constants it.kept)
+    (sym (ap (λ k. k.log) c.hand_out.ensures.keeper ∙ ap (λ k. k.log) c.with_pass-child.ensures.keeper)) c.make_child-forked.ensures.recorded
 
 pub returns-clause-pass : goal.returns-clause-pass
 returns-clause-pass g c =
@@ -83,6 +80,3 @@ returns-clause-pass g c =
 
 pub returns-clause-seen : goal.returns-clause-seen
 returns-clause-seen g c = ap (λ v. v.seen) (c.drop.view_is ∙ c.hand_out.ensures.pass) ∙ sym (ap (λ k. k.log) c.hand_out.ensures.keeper)
-
-pub tell_news-requires : goal.tell_news-requires
-tell_news-requires g c = deadlines_there c.make_child-forked.ensures.recorded

@@ -1,10 +1,13 @@
 use Rattle.std.proofs.Common.{ap}
 use Rattle.shared_history.specs.declared.entries.EntryHead.{EntryHead}
-use Rattle.kernel_cell.proofs.RecordedSteps.{kernel_early, log_short, constants_early, covers, wake_can, wake_few, same_given, wake_fits, wake_recorded, wake_came}
+use Rattle.kernel_cell.proofs.RecordedSteps.{deadlines_there, kernel_early, log_short, constants_early, covers, wake_can, wake_few, same_given, wake_fits, wake_recorded, wake_came}
 use Rattle.kernel_cell.proofs.locked.Locked.wake.Goals as goal
 
 pub given-given-requires : goal.given-given-requires
 given-given-requires g c = record { thread = c.requires.asks.registers }
+
+pub wake-requires-clause-deadlines : goal.wake-requires-clause-deadlines
+wake-requires-clause-deadlines g c = deadlines_there c.requires.recorded
 
 pub wake-requires-clause-early : goal.wake-requires-clause-early
 wake-requires-clause-early g c = kernel_early c.requires.recorded

@@ -2,7 +2,6 @@ use Rattle.std.proofs.Common.{◌≡◌, ℕ, ◌^◌, Some, IsSome, is_some, re
 use Rattle.std.specs.Ordering.{nat_cmp}
 use Rattle.std.specs.FinMap.{FinMap, get, insert}
 use Rattle.abi_types.specs.declared.open_kind.OpenKind.{OpenKind}
-use Rattle.channel_calls.specs.Calls.{AllGoOn, AreFew, Channels}
 use Rattle.fd_table.specs.Sizes.{below-insert_again}
 use Rattle.tree_model.specs.Opens.{is_used}
 use Rattle.kernel_model.specs.OwnChanges.{begun_anew}
@@ -15,9 +14,9 @@ use Rattle.kernel_parts.specs.Released.{state_by}
 use Rattle.process_calls.specs.Forks.{IsOpenOf}
 use Rattle.kernel_core.specs.Programs.{begun_updates}
 use Rattle.kernel_core.specs.contracts.kernel.Kernel.{the_view}
-use Rattle.kernel_core.proofs.HeldEnds.{begun_is_held, process_few, released_is_held}
-use Rattle.kernel_core.proofs.Released.{kept_released, parts, released_to}
-use Rattle.kernel_core.proofs.Channels.{AreCounted, covered_alone, table_counts}
+use Rattle.kernel_core.proofs.HeldEnds.{begun_is_held, process_few}
+use Rattle.kernel_core.proofs.Released.{kept_released, parts, released_is_held, released_to}
+use Rattle.kernel_core.proofs.Channels.{covered_alone, table_counts}
 use Rattle.kernel_core.proofs.ForkCalls.{counts_room, opens_counted}
 use Rattle.kernel_core.proofs.Kept.{small_set}
 use Rattle.kernel_core.proofs.kernel.Kernel.begin.Goals as goal

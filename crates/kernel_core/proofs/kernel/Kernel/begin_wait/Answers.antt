@@ -1,4 +1,4 @@
-use Rattle.std.proofs.Common.{◌≡◌, Some, IsSome, sym, ap, subst, ◌∙◌}
+use Rattle.std.proofs.Common.{◌≡◌, Some, IsSome, refl, sym, ap, subst, ◌∙◌}
 use Rattle.std.specs.FinMap.{get, insert}
 use Rattle.abi_types.specs.declared.thread.Thread.{Thread}
 use Rattle.abi_types.specs.declared.who.Who.{Who}
@@ -7,10 +7,12 @@ use Rattle.kernel_model.specs.Waits.{thread_set, waiting, with_thread}
 use Rattle.kernel_model.proofs.Parking.{waiting_may}
 use Rattle.kernel_parts.specs.Keys.{key}
 use Rattle.readiness_laws.specs.Watched.{looked_at}
+use Rattle.wait_set.specs.Waits.{resting}
 use Rattle.kernel_core.specs.Kernel.{AreHeld, IsKept}
 use Rattle.kernel_core.specs.Readiness.{places_by_key, HasStood}
+use Rattle.kernel_core.specs.Waiting.{IsUnready}
 use Rattle.kernel_core.specs.contracts.kernel.Kernel.{the_view}
-use Rattle.kernel_core.proofs.HeldStanding.{stood_is_held}
+use Rattle.kernel_core.proofs.HeldStanding.{rested_is_held}
 use Rattle.kernel_core.proofs.Parks.{after_kept, set_after}
 use Rattle.kernel_core.proofs.kernel.Kernel.begin_wait.Goals as goal
 use Rattle.kernel_core.proofs.kernel.Kernel.begin_wait.Goals.{After-park}
@@ -47,12 +49,14 @@ invariant_of-self d = record {
       let t = d.args.who.now.tid in
       let number : d.thread_key.result ≡ key p t = d.thread_key.ensures ∙ ap (λ (w : Who). key p w.tid) d.who.view_is in
       let is = put c ∙ set_after S p t (thread c) c.get_mut-own.result.now c.park.new.self (there c) (set c) in
-      let at_number = subst (λ k. HasStood k (places_by_key S.opens S.tables (insert S.processes d.from.result d.park.new.self) k) d.self.inside.waits d.stand.new.waits) number d.stand.ensures in
-      subst (λ (T : State). AreHeld (looked_at T) d.stand.new.waits) (sym is)
-      (stood_is_held S d.self.inside.waits d.stand.new.waits p t (thread c) d.self.invariant.waits
+      let at_number = subst (λ k. HasStood k (resting d.args.is_left) (places_by_key S.opens S.tables (insert S.processes d.from.result d.park.new.self) k) d.self.inside.waits d.rest_entry.new.waits)
+      number d.rest_entry.ensures in
+      subst (λ (T : State). AreHeld (looked_at T) d.rest_entry.new.waits) (sym is)
+      (rested_is_held S d.self.inside.waits d.rest_entry.new.waits p t (thread c) d.args.is_left d.self.invariant.waits
       (subst (λ (T : State). IsSome (thread_of T p t)) (sym d.self.view_is) d.requires.there)
-      (waiting_may d.args.constants.now d.args.kept d.args.who.now d.args.self.now.clock d.requires.may)
-      (subst (λ (T : State). HasStood (key p t) (places_by_key S.opens S.tables T.processes (key p t)) d.self.inside.waits d.stand.new.waits) is at_number));
+      (waiting_may d.args.constants.now d.args.kept d.args.who.now d.args.self.now.clock d.requires.may) refl
+      (λ rests. subst (λ (T : State). IsUnready (with_thread T p t (thread c)) p t) (sym d.self.view_is) (d.requires.unready rests))
+      (subst (λ (T : State). HasStood (key p t) (resting d.args.is_left) (places_by_key S.opens S.tables T.processes (key p t)) d.self.inside.waits d.rest_entry.new.waits) is at_number));
 }
 
 pub returns : goal.returns

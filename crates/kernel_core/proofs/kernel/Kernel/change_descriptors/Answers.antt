@@ -20,9 +20,8 @@ use Rattle.kernel_core.specs.contracts.kernel.Kernel.{the_view}
 use Rattle.readiness_laws.specs.Watched.{looked_at}
 use Rattle.kernel_core.specs.Kernel.{AreHeld}
 use Rattle.kernel_core.specs.Readiness.{number_changed, open_changed, AreLeftBy}
-use Rattle.kernel_core.proofs.HeldChannels.{held_released}
 use Rattle.kernel_core.proofs.HeldTables.{change_is_held}
-use Rattle.kernel_core.proofs.Released.{kept_released, released_to}
+use Rattle.kernel_core.proofs.Released.{kept_released, released_is_held, released_to}
 use Rattle.kernel_core.proofs.Changes.{change_of_own, change_small, change_valid, puts_are}
 use Rattle.kernel_core.proofs.Channels.{counts_few, covered_alone, table_counts}
 use Rattle.kernel_core.proofs.Done.{done_at, lacked}
@@ -196,7 +195,7 @@ invariant_of-self-2 d = record {
       (below-insert_again (2 ^ 32) k.tables c.args.pid (table_after table (us c)) c.self.invariant.kept.processes (ap is_some (there c)));
   waits =
       let c = (goal.at.invariant_of-self-2 d).After-release in
-      held_released (before_release c) (fields c) d.touch_changed.new.waits d.release.new.waits (held c) d.release.ensures.touched refl;
+      released_is_held (before_release c) (fields c) _ d.touch_changed.new.waits d.release.new.waits refl (held c) d.release.ensures.touched refl;
 }
 
 pub returns : goal.returns

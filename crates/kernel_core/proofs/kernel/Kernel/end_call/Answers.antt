@@ -12,8 +12,8 @@ use Rattle.kernel_core.specs.contracts.kernel.Kernel.{the_view}
 use Rattle.readiness_laws.specs.Watched.{looked_at}
 use Rattle.kernel_core.specs.Kernel.{AreHeld}
 use Rattle.kernel_core.specs.Readiness.{left_where_done}
-use Rattle.kernel_core.proofs.HeldChannels.{end_is_held, end_keeps, held_released}
-use Rattle.kernel_core.proofs.Released.{kept_released, released_to}
+use Rattle.kernel_core.proofs.HeldChannels.{end_is_held, end_keeps}
+use Rattle.kernel_core.proofs.Released.{kept_released, released_is_held, released_to}
 use Rattle.kernel_core.proofs.Channels.{channels_put, end_going, end_nearly, end_sets}
 use Rattle.kernel_core.proofs.kernel.Kernel.end_call.Goals as goal
 use Rattle.kernel_core.proofs.kernel.Kernel.end_call.Goals.{After-release}
@@ -76,7 +76,7 @@ invariant_of-self-2 d = record {
       d.release.ensures.counted (d.release.ensures.few (d.on_end.ensures.few d.self.invariant.kept.few)) d.self.invariant.kept.small d.self.invariant.kept.processes;
   waits =
       let c = (goal.at.invariant_of-self-2 d).After-release in
-      held_released (before_release c) (fields c) d.touch_answered.new.waits d.release.new.waits (held c) d.release.ensures.touched refl;
+      released_is_held (before_release c) (fields c) _ d.touch_answered.new.waits d.release.new.waits refl (held c) d.release.ensures.touched refl;
 }
 
 pub returns : goal.returns

@@ -12,8 +12,8 @@ use Rattle.kernel_model.proofs.EndedValid.{end_nearly_valid}
 use Rattle.kernel_model.proofs.Valids.{same_keys_inserted}
 use Rattle.kernel_parts.specs.Released.{state_by}
 use Rattle.kernel_core.specs.contracts.kernel.Kernel.{the_view}
-use Rattle.kernel_core.proofs.HeldEnds.{process_end_is_held, released_is_held}
-use Rattle.kernel_core.proofs.Released.{kept_released, parts, released_to}
+use Rattle.kernel_core.proofs.HeldEnds.{process_end_is_held}
+use Rattle.kernel_core.proofs.Released.{kept_released, parts, released_is_held, released_to}
 use Rattle.fd_table.specs.Sizes.{below-insert_again}
 use Rattle.kernel_core.proofs.Channels.{AreCounted, covered_alone, emptied_counts}
 use Rattle.kernel_core.proofs.Kept.{small_empty, small_set}

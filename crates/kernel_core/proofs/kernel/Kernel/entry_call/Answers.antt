@@ -22,7 +22,8 @@ use Rattle.kernel_core.specs.contracts.kernel.Kernel.{the_view}
 use Rattle.kernel_core.proofs.Done.{done_as, done_at, lacked}
 use Rattle.kernel_core.proofs.EntryCalls.{entries_after, entries_answer, entries_take_memory, entries_tree, entries_valid, open_there}
 use Rattle.kernel_parts.proofs.Forgetting.{used_still}
-use Rattle.kernel_core.proofs.HeldSame.{named_threads, same_threads_held}
+use Rattle.kernel_core.proofs.HeldNew.{same_threads_are_held}
+use Rattle.kernel_core.proofs.HeldSame.{named_threads}
 use Rattle.kernel_core.proofs.Opens.{IsFound, open_absent, open_found}
 use Rattle.kernel_core.proofs.kernel.Kernel.entry_call.Goals as goal
 use Rattle.kernel_core.proofs.kernel.Kernel.entry_call.Goals.{In_err-done, In_ok-done}
@@ -164,7 +165,7 @@ invariant_of-self-2 d = record {
       let c = (goal.at.invariant_of-self-2 d).In_ok-done in
       let S = the_view d.self.inside in
       let own : ProcessState = d.get_mut-own.result.now in
-      same_threads_held S d.self.inside.objects.counts d.from.result own d.change_entries.new.own d.self.inside.waits d.self.invariant.kept (sym d.get_mut-own.ensures.value)
+      same_threads_are_held S d.from.result own d.change_entries.new.own d.self.inside.waits (sym d.get_mut-own.ensures.value)
       (ap (λ (x : ProcessState). x.threads) (done c).numbered
       ∙ named_threads d.args.pid (name_meaning (call_of_entry d.args.call)).new_nodes own (comes c)) d.self.invariant.waits;
 }

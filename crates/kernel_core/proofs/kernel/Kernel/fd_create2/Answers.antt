@@ -24,9 +24,8 @@ use Rattle.kernel_parts.specs.Touching.{HasEach, spread_if}
 use Rattle.readiness_laws.specs.Watched.{looked_at}
 use Rattle.kernel_core.specs.Kernel.{AreHeld}
 use Rattle.kernel_core.specs.Readiness.{is_concerned_in}
-use Rattle.kernel_core.proofs.HeldChannels.{held_released}
 use Rattle.kernel_core.proofs.HeldNew.{pair_is_held}
-use Rattle.kernel_core.proofs.Released.{kept_released, parts, released_to}
+use Rattle.kernel_core.proofs.Released.{kept_released, parts, released_is_held, released_to}
 use Rattle.kernel_core.proofs.Channels.{AreCounted, moved_counts}
 use Rattle.kernel_core.proofs.Done.{done_at, lacked, replied}
 use Rattle.kernel_core.proofs.EndCalls.{create_is, create_nearly, numbers_can, pair_fits, pair_free, pair_going, pair_new, pair_put, pair_small, pair_table, pair_used, with_pair}
@@ -302,7 +301,7 @@ invariant_of-self-2 d = record {
   waits =
       let c = (goal.at.invariant_of-self-2 d).After-release in
       let g = (goal.at.invariant_of-self-2 d).After-get_mut-table in
-      held_released (before_release c) (fields c) d.touch_number_of-2.new.waits d.release.new.waits (held c (new g) (same g) (planned g).kind_is (there g))
+      released_is_held (before_release c) (fields c) _ d.touch_number_of-2.new.waits d.release.new.waits refl (held c (new g) (same g) (planned g).kind_is (there g))
       d.release.ensures.touched refl;
 }
 

@@ -1,23 +1,47 @@
-use Rattle.std.proofs.Common.{◌≤◌, Some, refl, subst, arith}
+use Rattle.std.proofs.Common.{◌≡◌, ◌≤◌, Some, refl, sym, ap, subst, ◌∙◌, arith}
+use Rattle.kernel_model.specs.Deadlines.{least_deadline}
+use Rattle.kernel_model.specs.State.{State}
 use Rattle.kernel_model.specs.Valid.{IsValid}
-use Rattle.kernel_model.proofs.Tests.{not_true}
+use Rattle.kernel_model.specs.Waits.{HasDeadlines}
+use Rattle.kernel_model.specs.Wakes.{MayJump, NoneReady}
+use Rattle.kernel_model.proofs.Tests.{none_is_no, not_true}
+use Rattle.kernel_core.specs.Waiting.{NoneRuns}
 use Rattle.kernel_core.specs.contracts.kernel.Kernel.{the_view}
-use Rattle.kernel_core.proofs.Waiters.{jump_is}
+use Rattle.kernel_core.proofs.HeldRunners.{jumps_to}
 use Rattle.kernel_core.proofs.HeldTimes.{all_held_at}
 use Rattle.kernel_core.proofs.kernel.Kernel.idle.Goals as goal
 use Rattle.kernel_core.proofs.kernel.Kernel.idle.Goals.{After-touch_time, then-soonest-until, else-soonest-until}
 
+pub returns-then-not-is_quiet-clause-valid : goal.returns-then-not-is_quiet-clause-valid
+returns-then-not-is_quiet-clause-valid c = subst IsValid (sym c.is_quiet.ensures.same) c.is_quiet.ensures.valid
+
 pub returns-in_default : goal.returns-in_default
-returns-in_default c = record {
-  exact = (
-    (λ yes. absurd (not_true yes)),
-    (λ may. let jump = jump_is c.args.constants.now c.args.self.now c.activity.result c.activity.ensures may in
-        absurd (c.in_default.not-Waiting (Some jump.0) jump.1)),
-  );
-  jumps = λ yes. absurd (not_true yes);
-  none = λ _. refl;
-  valid = subst IsValid c.self.view_is c.self.invariant.kept.valid;
-}
+returns-in_default c =
+    let constants = c.args.constants.now in
+    let same = c.is_quiet.ensures.same in
+    let least : c.next_deadline.result ≡ least_deadline c.args.self.now =
+    c.next_deadline.ensures constants (subst (HasDeadlines constants) (sym same) c.requires.deadlines) ∙ ap least_deadline same in
+    record {
+      exact = ((λ yes. absurd (not_true yes)), (λ may. absurd (none_is_no may.until (sym c.in_default.is ∙ least ∙ may.least))));
+      jumps = λ yes. absurd (not_true yes);
+      none = λ _. same;
+      valid = subst IsValid (sym same) c.is_quiet.ensures.valid;
+    }
+
+pub returns-clause-exact : goal.returns-clause-exact
+returns-clause-exact c =
+    let constants = c.args.constants.now in
+    let same = c.is_quiet.ensures.same in
+    let T : State = the_view c.self.inside in
+    let is : T ≡ c.args.self.now = c.self.view_is ∙ same in
+    let quiet = c.is_quiet.ensures.exact.0 c.if-not-is_quiet.false in
+    let least : least_deadline T ≡ Some c.in-Some.until =
+    ap least_deadline c.self.view_is ∙ sym (c.next_deadline.ensures constants (subst (HasDeadlines constants) (sym same) c.requires.deadlines)) ∙ c.in-Some.is in (
+      (λ _. subst (MayJump constants) is
+          (jumps_to constants T c.self.inside.waits c.self.invariant.waits.watched c.self.invariant.kept.valid (subst NoneRuns (sym is) quiet.0)
+          (subst (NoneReady constants) (sym is) quiet.1) c.in-Some.until least)),
+      (λ _. refl),
+    )
 
 -- ---- the time
 

@@ -3,7 +3,8 @@ use Rattle.std.specs.FinMap.{insert}
 use Rattle.kernel_model.specs.Families.ClockCalls.{drawn_by}
 use Rattle.kernel_model.specs.State.{ProcessState}
 use Rattle.kernel_core.specs.contracts.kernel.Kernel.{the_view}
-use Rattle.kernel_core.proofs.HeldSame.{drawn_left, same_threads_held}
+use Rattle.kernel_core.proofs.HeldNew.{same_threads_are_held}
+use Rattle.kernel_core.proofs.HeldSame.{drawn_left}
 use Rattle.kernel_core.proofs.OwnCalls.{drawn_only, own_call, own_call_done, own_call_kept, IsOwnCall}
 use Rattle.kernel_core.proofs.kernel.Kernel.random_get.Goals as goal
 use Rattle.kernel_core.proofs.kernel.Kernel.random_get.Goals.{After-draw}
@@ -23,7 +24,7 @@ invariant_of-self d = record {
   waits =
       let c = (goal.at.invariant_of-self d).After-draw in
       let own : ProcessState = c.get_mut-own.result.now in
-      same_threads_held (the_view c.self.inside) c.self.inside.objects.counts c.from.result own c.draw.new.self c.self.inside.waits c.self.invariant.kept
+      same_threads_are_held (the_view c.self.inside) c.from.result own c.draw.new.self c.self.inside.waits
       (sym c.get_mut-own.ensures.value) (drawn_left c.args.constants.now c.args.pid own c.draw.new.self c.args.length c.draw.result c.draw.ensures) c.self.invariant.waits;
 }
 

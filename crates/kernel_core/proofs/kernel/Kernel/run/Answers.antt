@@ -13,7 +13,8 @@ use Rattle.kernel_model.specs.Done.{IsAnswered}
 use Rattle.kernel_core.specs.contracts.kernel.Kernel.{the_view}
 use Rattle.kernel_core.proofs.Acts.{done_is_step, lack_is_step}
 use Rattle.kernel_core.proofs.Parks.{park_lacks_is_step, parked_is_step, parked_left, parks_may}
-use Rattle.kernel_core.proofs.Waiters.{thread_is_live}
+use Rattle.readiness_laws.proofs.Beginning.{parked_unready}
+use Rattle.readiness_laws.proofs.Running.{thread_lives}
 use Rattle.kernel_core.proofs.HeldTimes.{all_held_at}
 use Rattle.kernel_core.proofs.kernel.Kernel.run.Goals as goal
 use Rattle.kernel_core.proofs.kernel.Kernel.run.Goals.{In-Ok-Parked}
@@ -55,7 +56,7 @@ events : (c : In-Ok-Parked) → (meaning_of c.args.call.now).by_stage ≡ false
 events c = sym c.in_default.ensures.value
 
 live : (c : In-Ok-Parked) → get c.args.self.now.statuses c.args.who.now.pid ≡ Some Live
-live c = thread_is_live c.args.self.now c.args.who.now.pid c.args.who.now.tid (valid c) (ap is_some c.requires.runnable)
+live c = thread_lives c.args.self.now c.args.who.now.pid c.args.who.now.tid (valid c) (ap is_some c.requires.runnable)
 
 -- it has done nothing else
 left : (c : In-Ok-Parked) → c.dispatch.new.self ≡ tick c.args.self.now
@@ -73,6 +74,12 @@ pub park-requires-clause-may : goal.park-requires-clause-may
 park-requires-clause-may d =
     let c = (goal.at.park-requires-clause-may d).In-Ok-Parked in
     parks_may c.args.constants.now c.args.self.now c.args.who.now c.args.call.now c.in-Ok-Parked.writes (events c) (live c) (answered c)
+
+pub park-requires-clause-unready : goal.park-requires-clause-unready
+park-requires-clause-unready d =
+    let c = (goal.at.park-requires-clause-unready d).In-Ok-Parked in
+    parked_unready c.args.constants.now c.args.self.now c.args.who.now c.args.call.now c.in-Ok-Parked.writes (answered c) (events c) (valid c) (live c)
+    (ap is_some c.requires.runnable) c.dispatch.new.self (left c)
 
 pub returns-in-Ok-clause-step : goal.returns-in-Ok-clause-step
 returns-in-Ok-clause-step c =

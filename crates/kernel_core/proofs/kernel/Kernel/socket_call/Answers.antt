@@ -21,9 +21,9 @@ use Rattle.kernel_core.specs.contracts.kernel.Kernel.{the_view}
 use Rattle.readiness_laws.specs.Watched.{looked_at}
 use Rattle.kernel_core.specs.Kernel.{AreHeld}
 use Rattle.kernel_core.specs.Readiness.{has_received, left_where_done}
-use Rattle.kernel_core.proofs.HeldChannels.{end_is_held, held_released, socket_keeps}
+use Rattle.kernel_core.proofs.HeldChannels.{end_is_held, socket_keeps}
 use Rattle.kernel_core.proofs.HeldTables.{received_is_held}
-use Rattle.kernel_core.proofs.Released.{kept_released, released_to}
+use Rattle.kernel_core.proofs.Released.{kept_released, released_is_held, released_to}
 use Rattle.kernel_core.proofs.Channels.{covered_by, moved_counts, socket_found, socket_going, socket_left_nearly, socket_put, socket_small}
 use Rattle.kernel_core.proofs.Done.{done_as, done_at, lacked, replied_seen}
 use Rattle.kernel_core.proofs.Kept.{kept_again, small_set}
@@ -205,7 +205,7 @@ invariant_of-self-2 d = record {
       (below-insert_again (2 ^ 32) d.self.inside.tables p _ d.self.invariant.kept.processes (ap is_some (there g)));
   waits =
       let c = (goal.at.invariant_of-self-2 d).After-release in
-      held_released (before_release c) (fields c) d.touch_received.new.waits d.release.new.waits
+      released_is_held (before_release c) (fields c) _ d.touch_received.new.waits d.release.new.waits refl
       (held c (d.from.ensures ∙ d.pid.view_is) (there (goal.at.invariant_of-self-2 d).After-get_mut-table)) d.release.ensures.touched refl;
 }
 

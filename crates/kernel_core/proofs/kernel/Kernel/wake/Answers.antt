@@ -66,7 +66,7 @@ go_on-answer-requires-clause-ahead c = λ parked.
     subst (λ (it : Call). is_parked (step_answer constants (with_thread S c.args.pid c.args.tid Runnable) who it) ≡ true) is
     (subst (λ (T : State). is_parked (step_answer constants T who c.set_word-old.new.call) ≡ true) c.resume-in-Plain.ensures.runs parked) in
     c.in-Ok.ensures.ok
-    ∙ queues_ahead constants S who call word waits (sym c.is_ready.ensures ∙ c.if-not-is_ready.false) woken ∙ ap Some (sym is)
+    ∙ queues_ahead constants S who call word waits (sym c.goes_on_now.ensures ∙ c.if-not-goes_on_now.false) woken ∙ ap Some (sym is)
 
 -- it is a step of the call with the word that its lock has now
 woken : (c : After-go_on-answer) (since : ℕ) (stage : Stage) (call : Call) → WaitsIn c.args.self.now (waiter c.args.pid c.args.tid since stage) call
@@ -88,7 +88,7 @@ woken c since stage call waits =
     (subst (λ (T : State). IsGoing constants T kept done answered after) c.resume-in-Plain.ensures.runs (c.go_on-answer.ensures.step, c.go_on-answer.ensures.exact))) in
     subst (λ (given : WakeIn). IsWake constants S one call given answered after) (sym c.in-Plain.is) (
       stepped.0,
-      wake_ends_wait constants S one call word answered after waits (sym c.is_ready.ensures ∙ c.if-not-is_ready.false) stepped.0,
+      wake_ends_wait constants S one call word answered after waits (sym c.goes_on_now.ensures ∙ c.if-not-goes_on_now.false) stepped.0,
       λ stage_counts. stepped.1 (same_stage word call ∙ stage_counts),
     )
 

@@ -1,8 +1,7 @@
-use Rattle.std.proofs.Common.{◌≡◌, ℕ, ◌/◌, ◌%◌, ◌^◌, Option, Some, sym, ap, ◌∙◌}
+use Rattle.std.proofs.Common.{◌≡◌, ◌/◌, ◌%◌, ◌^◌, Option, ap, ◌∙◌}
 use Rattle.std.specs.Option.{option_map}
 use Rattle.std.specs.FinMap.{get}
-use Rattle.kernel_model.specs.State.{ProcessState, Table, thread_in}
-use Rattle.abi_types.specs.declared.thread.Thread.{Thread}
+use Rattle.kernel_model.specs.State.{ProcessState, thread_in}
 use Rattle.kernel_core.specs.Readiness.{waits_no_more}
 use Rattle.kernel_core.proofs.readiness.LookedParts.is_ready.Goals as goal
 

@@ -1,21 +1,21 @@
-use Rattle.std.proofs.Common.{◌≡◌, ℕ, ◌<◌, ◌^◌, None, Some, refl, sym, ap, subst, ◌∙◌}
-use Rattle.std.specs.FinMap.{get, insert}
+use Rattle.std.proofs.Common.{◌≡◌, ℕ, Some, refl, sym, ap, subst, ◌∙◌}
+use Rattle.std.specs.FinMap.{get, insert, remove}
 use Rattle.abi_types.specs.declared.reply.Answer.TheVariants as answer
 use Rattle.abi_types.specs.declared.thread.Thread.TheVariants.{Runnable}
+use Rattle.maps.specs.Maps.{remove-inserted}
 use Rattle.kernel_model.specs.Families.ProcessCalls.{made_in}
 use Rattle.kernel_model.specs.Outcome.{Outcome, IsSuccess}
 use Rattle.kernel_model.specs.OwnChanges.{next_thread, with_next_thread}
 use Rattle.kernel_model.specs.Reply.{success}
-use Rattle.kernel_model.specs.State.{ProcessState}
+use Rattle.kernel_model.specs.State.{ProcessState, Threads}
 use Rattle.guest_locks.specs.Queues.{AreFew}
 use Rattle.kernel_parts.specs.OwnCalls.{new_thread, own_after}
 use Rattle.kernel_parts.specs.contracts.process.ProcessState.{the_view}
 use Rattle.kernel_parts.proofs.FewThreads.{few_new}
 use Rattle.kernel_parts.proofs.Done.{own_lacked}
 use Rattle.kernel_parts.proofs.OwnCalls.{can_be_given, made_with, not_made}
-use Rattle.kernel_parts.specs.Touching.{lacking, made}
+use Rattle.kernel_parts.specs.Touching as touching
 use Rattle.kernel_parts.proofs.process.ProcessState.make_thread.Goals as goal
-use Rattle.kernel_parts.proofs.process.ProcessState.make_thread.Goals.{After-ensure_entry}
 
 pub returns-in_default-clause-done : goal.returns-in_default-clause-done
 returns-in_default-clause-done c = λ p.
@@ -40,7 +40,7 @@ returns-clause-done c = λ p.
 
 pub returns-in_err-insert-clause-done : goal.returns-in_err-insert-clause-done
 returns-in_err-insert-clause-done c = λ p.
-    own_lacked (made_in p c.args.tid (Some c.args.self.now)) c.args.self.now _ c.from_residual-in_err-insert.result c.from_residual-in_err-insert.ensures.0
+    own_lacked (made_in p c.args.tid (Some c.args.self.now)) c.args.self.now _ c.from_residual.result c.from_residual.ensures.0
     (subst (λ (o : Outcome). IsSuccess o.answer) (sym (made_with p c.args.tid c.in-Some.number c.args.self.now c.in-Some.ensures).0) refl)
     ((λ i. record (the_view c.self.inside) { threads = c.in_err-insert.ensures.err i }) ∙ c.self.view_is)
 
@@ -51,25 +51,35 @@ invariant_of-self-2 c =
     subst AreFew (sym (c.in_ok-insert.ensures.ok ∙ ap (λ (k : ℕ). insert V.threads k Runnable) c.from-key.ensures))
     (few_new V.threads c.in-Some.number Runnable can.0 can.1 can.2 c.self.invariant)
 
-pub returns-in_err-ensure_entry-clause-done : goal.returns-in_err-ensure_entry-clause-done
-returns-in_err-ensure_entry-clause-done c = λ p.
-    own_lacked (made_in p c.args.tid (Some c.args.self.now)) c.args.self.now _ c.from_residual.result c.from_residual.ensures.0
-    (subst (λ (o : Outcome). IsSuccess o.answer) (sym (made_with p c.args.tid c.in-Some.number c.args.self.now c.in-Some.ensures).0) refl) refl
+-- ---- the thread goes again where its entry lacks memory
+
+back : (c : goal.Joined-remove) → c.remove.new.self ≡ c.self.inside.threads
+back c =
+    let V : ProcessState = the_view c.self.inside in
+    let can = can_be_given c.args.tid c.in-Some.number V (c.in-Some.ensures ∙ ap (new_thread c.args.tid) (sym c.self.view_is)) in
+    c.remove.ensures.new ∙ ap (λ (m : Threads). remove m c.from-key.result) c.in_ok-insert.ensures.ok
+    ∙ remove-inserted V.threads c.from-key.result Runnable (ap (get V.threads) c.from-key.ensures ∙ can.0)
+
+pub invariant_of-self-in-Err : goal.invariant_of-self-in-Err
+invariant_of-self-in-Err c = subst AreFew (sym (back c)) c.self.invariant
+
+pub returns-in-Err-clause-done : goal.returns-in-Err-clause-done
+returns-in-Err-clause-done c = λ p. (
+  subst (λ (o : Outcome). IsSuccess o.answer) (sym (made_with p c.args.tid c.in-Some.number c.args.self.now c.in-Some.ensures).0) refl,
+  (λ i. record (the_view c.self.inside) { threads = back c i }) ∙ c.self.view_is,
+)
 
 -- ---- its entry
 
-free : (c : After-ensure_entry) → (get c.args.self.now.threads c.in-Some.number ≡ None) × (c.in-Some.number < 2 ^ 30)
-free c = let can = can_be_given c.args.tid c.in-Some.number c.args.self.now c.in-Some.ensures in (can.0, can.1)
+pub returns-in-Err-clause-entry : goal.returns-in-Err-clause-entry
+returns-in-Err-clause-entry c = touching.not_made (back c ∙ ap (λ (own : ProcessState). own.threads) c.self.view_is) c.in-Err.ensures.err
 
 pub returns-in_err-insert-clause-entry : goal.returns-in_err-insert-clause-entry
-returns-in_err-insert-clause-entry d =
-    let c = (goal.at.returns-in_err-insert-clause-entry d).After-ensure_entry in
-    lacking d.in-Some.number (free c).1 (free c).0
-    (d.in_err-insert.ensures.err ∙ ap (λ (own : ProcessState). own.threads) d.self.view_is) d.in_ok-ensure_entry.ensures.ok
+returns-in_err-insert-clause-entry c = touching.not_made (c.in_err-insert.ensures.err ∙ ap (λ (own : ProcessState). own.threads) c.self.view_is) refl
 
 pub returns-clause-entry : goal.returns-clause-entry
-returns-clause-entry d =
-    let c = (goal.at.returns-clause-entry d).After-ensure_entry in
-    made d.in-Some.number (free c).1 (free c).0
-    (d.in_ok-insert.ensures.ok ∙ ap (λ (k : ℕ). insert d.self.inside.threads k Runnable) d.from-key.ensures
-    ∙ ap (λ (own : ProcessState). insert own.threads d.in-Some.number Runnable) d.self.view_is) d.in_ok-ensure_entry.ensures.ok
+returns-clause-entry c =
+    let can = can_be_given c.args.tid c.in-Some.number c.args.self.now c.in-Some.ensures in
+    touching.made c.in-Some.number can.1 can.0
+    (c.in_ok-insert.ensures.ok ∙ ap (λ (k : ℕ). insert c.self.inside.threads k Runnable) c.from-key.ensures
+    ∙ ap (λ (own : ProcessState). insert own.threads c.in-Some.number Runnable) c.self.view_is) c.in_default-ensure_entry.ensures.ok

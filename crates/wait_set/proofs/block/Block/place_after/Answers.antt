@@ -1,4 +1,4 @@
-use Rattle.std.proofs.Common.{◌≡◌, ℕ, ◌<◌, length, get_or, nat_lt, true, false, sym, ap, subst, ◌∙◌, Ok, Err, List}
+use Rattle.std.proofs.Common.{◌≡◌, ℕ, ◌<◌, length, get_or, nat_lt, true, false, sym, subst, ◌∙◌, Ok, Err, List}
 use Rattle.std.proofs.lemmas.List.Sorted.{searched}
 use Rattle.wait_set.specs.Numbers.{IsAscending}
 use Rattle.wait_set.proofs.Ascending.{rising, before_ok, before_err, behind_err}

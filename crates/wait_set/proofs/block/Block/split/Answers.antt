@@ -1,4 +1,4 @@
-use Rattle.std.proofs.Common.{◌≡◌, ◌-◌, ◌++◌, ℕ, List, length, take, drop, IsOk, sym, ap, ◌∙◌, rules}
+use Rattle.std.proofs.Common.{◌≡◌, ◌-◌, ◌++◌, ℕ, List, length, take, drop, IsOk, ap, ◌∙◌, rules}
 use Rattle.wait_set.proofs.Packed.{rest_taken}
 use Rattle.wait_set.proofs.block.Block.split.Goals as goal
 

@@ -1,6 +1,5 @@
 use Rattle.std.proofs.Common.{◌≡◌, ◌&&◌, not, ℕ, ◌<◌, List, false, length, get_or, sym, ap, subst, ◌∙◌}
 use Rattle.std.specs.Bool.{nat_eq}
-use Rattle.std.specs.List.{concat}
 use Rattle.maps.specs.Closure.{member}
 use Rattle.wait_set.specs.Numbers.{IsAscending}
 use Rattle.wait_set.proofs.Ascending.{not_here, between}

@@ -1,21 +1,26 @@
-use Rattle.std.proofs.Common.{true, refl, sym, ap, ◌∙◌, is_some}
+use Rattle.std.proofs.Common.{is_some, true, refl, sym, ap}
 use Rattle.wait_set.specs.declared.waiting.Waiting.{Waiting}
-use Rattle.wait_set.specs.Waits.{lists, is_ready, is_everywhere, is_left}
-use Rattle.wait_set.proofs.Tying.{flag_kept, flagged_put, flagged_kept, gone_put, room_for}
+use Rattle.wait_set.specs.Waits.{is_everywhere, is_left, is_ready}
+use Rattle.wait_set.proofs.Tying.{known_at, put_kept, queued_kept, room_for, tied_put}
 use Rattle.wait_set.proofs.wait_set.WaitSet.leave.Goals as goal
 
-pub put-requires : goal.put-requires
-put-requires c = λ _ none. room_for is_left c.self.inside.threads c.args.thread c.self.inside.left c.self.invariant.left_set (ap is_some (sym c.get_mut.ensures.value)) none
+pub change-requires : goal.change-requires
+change-requires c =
+    let at = sym c.get_mut-waiting.ensures.value in
+    record {
+      known = known_at is_left c.self.inside.threads c.args.thread c.get_mut-waiting.result.now c.self.inside.left _ c.self.invariant.left_set at c.is_left.ensures;
+      room = λ _ none. room_for is_left c.self.inside.threads c.args.thread c.self.inside.left c.self.invariant.left_set (ap is_some at) none;
+    }
 
 pub invariant_of-self : goal.invariant_of-self
 invariant_of-self c =
-    let at = sym c.get_mut.ensures.value in
-    let s = c.get_mut.result.now in
-    let new : Waiting = record { spots = s.spots; everywhere = s.everywhere; ready = s.ready; left = true } in
-    record {
-      queued = λ x u. c.self.invariant.queued x u ∙ sym (flag_kept (lists x) c.self.inside.threads c.args.thread s new at refl u);
-      ready_set = flagged_kept is_ready c.self.inside.threads c.args.thread s new c.self.inside.ready c.self.invariant.ready_set at refl;
-      everywhere_set = flagged_kept is_everywhere c.self.inside.threads c.args.thread s new c.self.inside.everywhere c.self.invariant.everywhere_set at refl;
-      left_set = flagged_put is_left c.self.inside.threads c.args.thread new c.self.inside.left c.put.new.self c.self.invariant.left_set (ap is_some at) c.put.ensures.member c.put.ensures.ascending c.put.ensures.room;
-      gone_room = gone_put c.self.inside.threads c.args.thread new _ _ (ap is_some at) c.self.invariant.gone_room;
-    }
+    let at = sym c.get_mut-waiting.ensures.value in
+    let s = c.get_mut-waiting.result.now in
+    let new : Waiting = record { spots = s.spots; everywhere = s.everywhere; ready = s.ready; left = true; runs = s.runs } in
+    tied_put c.self.inside.threads c.args.thread s new c.self.inside.queues c.self.inside.queues c.self.inside.ready c.self.inside.ready c.self.inside.everywhere c.self.inside.everywhere
+    c.self.inside.left c.change.new.self c.self.inside.running _ _ _ c.self.invariant at
+    (queued_kept c.self.inside.threads c.args.thread s c.self.inside.queues c.self.invariant.queued at)
+    (put_kept is_ready c.self.inside.threads c.args.thread s c.self.inside.ready (is_ready new) c.self.invariant.ready_set at refl)
+    (put_kept is_everywhere c.self.inside.threads c.args.thread s c.self.inside.everywhere s.everywhere c.self.invariant.everywhere_set at refl)
+    (c.change.ensures.member, c.change.ensures.ascending c.self.invariant.left_set.ascending, c.change.ensures.room)
+    refl

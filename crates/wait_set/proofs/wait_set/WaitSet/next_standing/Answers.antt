@@ -2,7 +2,7 @@ use Rattle.std.proofs.Common.{◌||◌, ap, ◌∙◌}
 use Rattle.std.specs.FinMap.{get}
 use Rattle.maps.specs.Closure.{member}
 use Rattle.wait_set.specs.SpotQueues.{spot_has}
-use Rattle.wait_set.specs.Waits.{WaitMap, flag, stands, is_everywhere}
+use Rattle.wait_set.specs.Waits.{WaitMap, flag, stands}
 use Rattle.wait_set.proofs.Tying.{next_same, stands_either}
 use Rattle.wait_set.proofs.wait_set.WaitSet.next_standing.Goals as goal
 

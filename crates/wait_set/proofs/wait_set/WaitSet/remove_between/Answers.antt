@@ -1,5 +1,5 @@
-use Rattle.std.proofs.Common.{◌≤◌, None, refl, ap, ◌∙◌, arith}
-use Rattle.std.specs.FinMap.{get, remove}
+use Rattle.std.proofs.Common.{None, refl, ap, ◌∙◌, arith}
+use Rattle.std.specs.FinMap.{get}
 use Rattle.wait_set.specs.Waits.{WaitMap}
 use Rattle.wait_set.proofs.Between.{between_first, between_step, between_last, removed_at}
 use Rattle.wait_set.proofs.wait_set.WaitSet.remove_between.Goals as goal

@@ -1,4 +1,4 @@
-use Rattle.std.proofs.Common.{◌≡◌, ◌≤◌, None, Some, is_some, true, refl, sym, ap, ◌∙◌, arith}
+use Rattle.std.proofs.Common.{is_some, true, refl, ap, ◌∙◌, arith}
 use Rattle.std.specs.Option.{option_map}
 use Rattle.std.specs.FinMap.{get, insert}
 use Rattle.maps.specs.Maps.{get-insert-same, insert-again}
@@ -26,7 +26,7 @@ pub loop-thread-preserved : goal.loop-thread-preserved
 loop-thread-preserved c =
     let entry = some_entry c.loop-thread.self c.in-Some.thread c.in-Some.ensures.2 in
     let s = entry.0 in
-    let first : Waiting = record { spots = s.spots; everywhere = true; ready = s.ready; left = s.left } in
+    let first : Waiting = record { spots = s.spots; everywhere = true; ready = s.ready; left = s.left; runs = s.runs } in
     let spread = c.spread.ensures entry.0 entry.1 in
     record {
       walked =

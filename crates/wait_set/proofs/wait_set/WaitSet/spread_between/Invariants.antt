@@ -1,4 +1,4 @@
-use Rattle.std.proofs.Common.{◌-◌, ◌≤◌, None}
+use Rattle.std.proofs.Common.{◌-◌, ◌≤◌}
 use Rattle.std.specs.Option.{option_map}
 use Rattle.wait_set.specs.Waits.{spread_out}
 use Rattle.wait_set.proofs.Between.{Between}

@@ -1,4 +1,4 @@
-use Rattle.std.proofs.Common.{refl, ◌≡◌, ◌+◌, ◌≤◌, ℕ, Some, None, sym, ap, subst, ◌∙◌, arith}
+use Rattle.std.proofs.Common.{refl, ◌+◌, ◌≤◌, Some, sym, ap, subst, ◌∙◌, arith}
 use Rattle.std.specs.FinMap.{get}
 use Rattle.wait_set.specs.Waits.{WaitMap, flag, stands, is_left, so_changed, counted, touched}
 use Rattle.wait_set.proofs.Walking.{walk_step, walk_end, remaining_step, next_before, entry_at}

@@ -1,5 +1,5 @@
-use Rattle.std.proofs.Common.{◌≡◌, ◌+◌, ◌≤◌, ℕ, Some, None, sym, ap, subst, ◌∙◌, arith}
-use Rattle.wait_set.specs.Waits.{WaitMap, lists, is_left, so_changed, counted, touched}
+use Rattle.std.proofs.Common.{Some, arith}
+use Rattle.wait_set.specs.Waits.{lists, so_changed, touched}
 use Rattle.wait_set.proofs.Walking.{walk_step, walk_end, remaining_step, next_before, entry_at}
 use Rattle.wait_set.proofs.wait_set.WaitSet.touch_listed.Goals as goal
 

@@ -1,4 +1,4 @@
-use Rattle.std.proofs.Common.{refl, ◌≡◌, ◌+◌, ◌≤◌, Some, sym, ap, subst, ◌∙◌}
+use Rattle.std.proofs.Common.{refl, ◌+◌, ◌≤◌, Some, sym, ap, subst, ◌∙◌}
 use Rattle.std.specs.FinMap.{get}
 use Rattle.wait_set.specs.Waits.{WaitMap, flag, IsExact, is_left, is_due, counted, stands, touched}
 use Rattle.wait_set.proofs.Moments.{reached_first, reached_step, reached_last, moments_fall}

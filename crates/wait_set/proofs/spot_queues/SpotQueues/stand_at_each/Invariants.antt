@@ -1,9 +1,0 @@
-use Rattle.std.proofs.Common.{◌≡◌, ◌&&◌, ◌||◌, ℕ, take}
-use Rattle.std.specs.Bool.{nat_eq}
-use Rattle.wait_set.specs.declared.spot.Spot.{Spot}
-use Rattle.wait_set.specs.Spots.{listed}
-use Rattle.wait_set.specs.SpotQueues.{spot_has}
-use Rattle.wait_set.proofs.spot_queues.SpotQueues.stand_at_each.Given as goal
-
-abbrev pub invariant-loop-spot : goal.invariant-loop-spot
-invariant-loop-spot l = (x : Spot) (t : ℕ) → spot_has l.self x t ≡ (spot_has l.fn.self x t || (listed x (take l.spot-index l.spots) && nat_eq t l.thread))
