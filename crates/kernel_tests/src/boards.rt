@@ -8,8 +8,8 @@ use turn_queue::{Back, Board, Passed, Task, Ticket};
 #[derive(Clone, Copy)]
 enum Event {
     Put(char),
-    // Some thread may be ready.
-    Tell,
+    // Some thread may be ready by what that of this ticket did.
+    Tell(char),
     // A worker takes its next task, of which this is expected.
     Gets(Next),
     // A ticket comes back so, and is given back or not.
@@ -56,7 +56,11 @@ const WORKERS: u32 = 5;
 // What comes to a board, one after another.
 const CASES: &[&[Event]] = &[
     // Nothing is there, also where something is told.
-    &[Event::Tell, Event::Waits(false), Event::Gets(Next::Leave)],
+    &[
+        Event::Tell('a'),
+        Event::Waits(false),
+        Event::Gets(Next::Leave),
+    ],
     // All wait, time goes on, and the thread that it makes ready is found; then nothing can happen any more.
     &[
         Event::Put('a'),
@@ -94,7 +98,7 @@ const CASES: &[&[Event]] = &[
         Event::Gets(Next::Run('c')),
         Event::Back('c', How::Waits, false),
         Event::Gets(Next::Run('e')),
-        Event::Tell,
+        Event::Tell('e'),
         Event::Back('e', How::Runs, false),
         Event::Gets(Next::Ask(None)),
         Event::Asked(Some('a')),
@@ -119,27 +123,31 @@ const CASES: &[&[Event]] = &[
         Event::Back('e', How::Leaves, true),
         Event::Gets(Next::Idle),
     ],
-    // What is told while the kernel is asked isn't lost.
+    // What is told while the kernel is asked isn't lost. Meanwhile no ticket is handed out of the process that told last.
     &[
         Event::Put('a'),
         Event::Put('c'),
+        Event::Put('e'),
         Event::Gets(Next::Run('a')),
         Event::Back('a', How::Waits, false),
         Event::Gets(Next::Run('c')),
-        Event::Tell,
+        Event::Tell('c'),
         Event::Back('c', How::Runs, false),
         Event::Gets(Next::Ask(None)),
-        Event::Gets(Next::Run('c')),
-        Event::Tell,
-        Event::Back('c', How::Waits, false),
+        Event::Gets(Next::Run('e')),
+        Event::Waits(true),
+        Event::Tell('e'),
+        Event::Back('e', How::Waits, false),
         Event::Waits(true),
         Event::Asked(None),
         Event::Waits(false),
-        Event::Gets(Next::Ask(None)),
-        Event::Asked(Some('c')),
         Event::Gets(Next::Run('c')),
+        Event::Gets(Next::Ask(None)),
+        Event::Asked(Some('a')),
+        Event::Gets(Next::Run('a')),
+        Event::Back('a', How::Leaves, true),
         Event::Back('c', How::Leaves, true),
-        Event::Gets(Next::Ask(Some('c'))),
+        Event::Gets(Next::Ask(Some('a'))),
         Event::Asked(None),
         Event::Gets(Next::Ask(None)),
         Event::Asked(None),
@@ -153,7 +161,7 @@ const CASES: &[&[Event]] = &[
         Event::Gets(Next::Run('a')),
         Event::Back('a', How::Waits, false),
         Event::Gets(Next::Run('c')),
-        Event::Tell,
+        Event::Tell('c'),
         Event::Gets(Next::Ask(None)),
         Event::Asked(Some('c')),
         Event::Gets(Next::Run('e')),
@@ -179,7 +187,7 @@ const CASES: &[&[Event]] = &[
         Event::Gets(Next::Run('a')),
         Event::Back('a', How::Waits, false),
         Event::Gets(Next::Run('b')),
-        Event::Tell,
+        Event::Tell('b'),
         Event::Gets(Next::Run('c')),
         Event::Waits(true),
         Event::Back('c', How::Waits, false),
@@ -227,7 +235,7 @@ const CASES: &[&[Event]] = &[
         Event::Waits(true),
         Event::Sleeps,
         Event::Rings(false),
-        Event::Tell,
+        Event::Tell('c'),
         Event::Back('c', How::Runs, false),
         Event::Gets(Next::Ask(None)),
         Event::Rings(false),
@@ -298,7 +306,7 @@ fn is_given(ticket: Option<Named>, name: char, given: bool) -> bool {
 fn follow(board: &mut Board<Named>, event: Event) -> bool {
     match event {
         Event::Put(name) => board.put(ticket(name)),
-        Event::Tell => board.tell(true),
+        Event::Tell(name) => board.tell(ticket(name).pid(), true),
         Event::Gets(next) => return gets(board, next),
         Event::Back(name, how, given) => {
             return is_given(board.take_back(ticket(name), back(how), None), name, given);
@@ -332,7 +340,7 @@ fn follow(board: &mut Board<Named>, event: Event) -> bool {
 fn tasks_are_handed_out(rt: HostRuntime) -> Result<(), Fail> {
     for (number, events) in CASES.iter().enumerate() {
         let mut board = Board::new(rt.alloc(), WORKERS)?;
-        board.tell(false);
+        board.tell(ticket('a').pid(), false);
         for (place, event) in events.iter().enumerate() {
             assert!(rt;
                 follow(&mut board, *event),

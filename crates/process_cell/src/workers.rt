@@ -91,7 +91,7 @@ impl<J: Naming> Done<J> {
         match self {
             Done::Ran(ticket, ran) => {
                 let Ran { came, child, told } = ran;
-                board.tell(told);
+                board.tell(ticket.pid(), told);
                 board.take_back(ticket, back(&came), child)
             }
             Done::Asked(found) => {

@@ -61,6 +61,9 @@ pub struct Board<T: SharedTicket> {
     found: Option<T>,
     // Tickets that are ready have their turn, since the last task was to ask, or came of that.
     asked_last: bool,
+    // The process of the thread by which something was told last, and that of which no ticket is handed out while a worker asks.
+    teller: Option<Pid>,
+    held: Option<Pid>,
     at_work: u32,
     waiting: u32,
     stops: bool,
@@ -76,6 +79,8 @@ impl<T: SharedTicket> Board<T> {
             asking: Asking::new(),
             found: None,
             asked_last: false,
+            teller: None,
+            held: None,
             at_work: 0,
             waiting: 0,
             stops: false,
@@ -96,11 +101,24 @@ impl<T: SharedTicket> Board<T> {
         }
     }
 
-    /// Tells whether some thread may be ready by what was done, or gone, whose ticket is parked.
-    pub fn tell(&mut self, news: bool) {
+    /// Tells whether some thread may be ready by what a thread of this process did, or gone, whose ticket is parked.
+    pub fn tell(&mut self, pid: Pid, news: bool) {
         if news {
             self.asking.tell();
+            self.teller = Some(pid);
         }
+    }
+
+    // Has the kernel asked. Meanwhile no ticket is handed out of the process that told of something last, as if the worker who asks had one: else
+    // its threads could go far before those that wait have their answer. No thread has the number 0.
+    fn ask(&mut self) -> Task<T> {
+        self.asked_last = true;
+        if let Some(pid) = self.teller {
+            if !self.outside.has(pid) && self.outside.enter(pid, Tid(0)).is_ok() {
+                self.held = self.teller.take();
+            }
+        }
+        Task::Ask(self.asking.begin())
     }
 
     // Puts the ticket of another thread of the process. Where memory runs out, all workers are to stop.
@@ -167,6 +185,9 @@ impl<T: SharedTicket> Board<T> {
     /// waits.
     pub fn take_asked(&mut self, found: Option<(Pid, Tid)>) {
         self.end_work();
+        if let Some(pid) = self.held.take() {
+            self.outside.leave(pid);
+        }
         if let Some(thread) = &found {
             self.take_ready(thread.0, thread.1);
         }
@@ -230,8 +251,7 @@ impl<T: SharedTicket> Board<T> {
             return self.lend(ticket);
         }
         if self.asks() {
-            self.asked_last = true;
-            return Task::Ask(self.asking.begin());
+            return self.ask();
         }
         if let Some(ticket) = self.queue.take_free(self.outside.busy()) {
             self.asked_last = false;
