@@ -141,7 +141,7 @@ leads_after launch front e rest lookup path oflags stat reply begins legal done 
     let call = FileOpen lookup path oflags stat in
     subst (λ (U : State). Leads w.state U e.pid lookup.fd) (sym (called_is launch front e call reply done))
     (step_leads w.constants w.state (who_of w.state e) lookup path oflags stat reply (called_state w.constants w.state (who_of w.state e) call (answer.Reply reply))
-    (stepped launch front e rest call reply legal done) done.success (world_is_valid launch front begins (legal_front launch front (e ∷ rest) legal)).nearly)
+    (stepped launch front e rest call reply legal done) done.success (world_is_valid launch front begins (legal_front launch front (e ∷ rest) legal)))
 
 pub opens_are_bounded : (launch : Launch) (front : List Entry) (e : Entry) (rest : List Entry) → MayBegin launch.tree launch.grants
     → Legal launch (front ++ e ∷ rest) → OpensAt launch front e

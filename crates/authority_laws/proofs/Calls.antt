@@ -1,8 +1,7 @@
 -- What each call leaves of its process's table is what its line of `granted_row` says.
 use Rattle.std.proofs.Common.{◌≡◌, ◌≢◌, ℕ, ◌+◌, ◌==◌, not, Bool, true, false, cond, List, [], ◌∷◌, ◌++◌, Option, Some, None, refl, sym, ap, subst, ◌∙◌}
 use Rattle.std.specs.Prelude.{bit_and, option_map}
-use Rattle.std.specs.FinMap.{get, insert, len-empty, remove}
-use Rattle.std.specs.Ordering.{nat_cmp}
+use Rattle.std.specs.FinMap.{get, insert, remove}
 use Rattle.abi_base.specs.declared.errno.Errno.{Errno}
 use Rattle.abi_base.specs.declared.errno.Errno.TheVariants.{Success, Again, Badf, Inval, Mfile, Nosys, Notsup, Perm}
 use Rattle.abi_structures.specs.declared.structures.FdStat.{FdStat}
@@ -21,9 +20,8 @@ use Rattle.abi_types.specs.declared.needed.Needed.{Needed}
 use Rattle.abi_types.specs.declared.node.NodeKind.TheVariants.{Link}
 use Rattle.abi_types.specs.declared.open_kind.OpenKind.{OpenKind}
 use Rattle.abi_types.specs.declared.place.Place.{Place}
-use Rattle.abi_types.specs.declared.thread.Thread.{Thread}
 use Rattle.abi_types.specs.declared.who.Who.{Who}
-use Rattle.maps.specs.Maps.{get-insert-same, get-insert-other}
+use Rattle.maps.specs.Maps.{get-insert-same, get-insert-other, get-remove-same}
 use Rattle.kernel_model.specs.Calls.{meaning_of, refusal_of}
 use Rattle.kernel_model.specs.Families.DescriptorCalls.{with_table, lowest_free, dup_at, dup_of, replaced_by, stat_open, stat_get, with_flags, lowered_to, stat_set, stat_put}
 use Rattle.kernel_model.specs.Families.ClockCalls.{drawn_if, real_time, time_of}
@@ -44,7 +42,7 @@ use Rattle.kernel_model.proofs.Polls.{poll_holds}
 use Rattle.kernel_model.specs.Families.LockCalls.{sleeps_in, tells, word_reply}
 use Rattle.kernel_model.specs.Families.Locks.{signalled_own, signalled_word, unlocked_own}
 use Rattle.kernel_model.proofs.LockCalls.{signal_holds, unlock_holds}
-use Rattle.kernel_model.specs.Families.ProcessCalls.{ended_process, made_if}
+use Rattle.kernel_model.specs.Families.ProcessCalls.{made_if}
 use Rattle.kernel_model.specs.OwnChanges.{without_thread}
 use Rattle.kernel_model.proofs.ClockCalls.{drawn_holds}
 use Rattle.kernel_model.proofs.ThreadCalls.{left_holds, made_holds}
@@ -71,13 +69,14 @@ use Rattle.kernel_model.specs.Families.ProcessCalls.{Raised, stops, passes, ends
 use Rattle.kernel_model.specs.ForkLaws.{nth_held}
 use Rattle.kernel_model.specs.OwnChanges.{is_success, with_next_child}
 use Rattle.kernel_model.specs.State.{counts_in}
-use Rattle.kernel_model.proofs.Births.{CanFork, child_apart, fork_holds, forks, may_is}
+use Rattle.kernel_model.proofs.Births.{CanFork, fork_holds, forks, may_is}
+use Rattle.kernel_model.proofs.ChildLaws.{child_apart}
 use Rattle.kernel_model.proofs.ExecCalls.{exec_at_holds, listed_at}
 use Rattle.kernel_model.proofs.Tests.{not_true}
 use Rattle.authority_laws.specs.Ledger.{Row, no_row, has_thread, After, after_of, with_held, lowered_row, granted_row, by_success, answered_row, new_held, new_held_of, raised_as, raised_row, recently_made}
 use Rattle.authority_laws.proofs.Openings.{open_reported, walk_by_error}
 use Rattle.authority_laws.proofs.Sockets.{pair_reported, receive_reported}
-use Rattle.authority_laws.proofs.Rows.{LeavesRow, row_in, row_of, row_emptied, row_inserted, row_removed, by_error, by_either, refused_reported, badf_is_error, mfile_is_error, nosys_is_error, again_is_error, perm_is_error}
+use Rattle.authority_laws.proofs.Rows.{LeavesRow, row_in, row_of, row_dropped, row_inserted, row_removed, by_error, by_either, refused_reported, badf_is_error, mfile_is_error, nosys_is_error, again_is_error, perm_is_error}
 
 -- each outcome of the call of a process with this table, once it is not refused, is such
 abbrev IsReported : Call → Type 0
@@ -198,7 +197,7 @@ poll_reported subscriptions constants S v who table there seen =
 -- ---- calls that change their process's table
 
 proc_exit_reported : (code : ℕ) → IsReported (ProcExit code)
-proc_exit_reported code constants S v who table there seen = row_emptied S.tables who.pid
+proc_exit_reported code constants S v who table there seen = row_dropped S.tables who.pid
 
 -- a table that has what the call's line says
 set_reported : (S : State) (p : ℕ) (call : Call) (table new : Table) (result : ℕ) → get S.tables p ≡ Some table
@@ -287,9 +286,8 @@ exit_reported lock word scope constants S v who table there seen =
     let row : Row = row_of S who.pid in
     left_holds (LeavesRow S who.pid (call.ThreadExit lock word scope)) who.pid who.tid lock word (v.process who.pid)
     (refused_reported S who.pid (call.ThreadExit lock word scope) Perm perm_is_error)
-    (λ new own _ _ last. row_emptied S.tables who.pid
-    ∙ sym (ap (λ o. cond (has_thread o) row no_row) (get-insert-same S.processes who.pid (ended_process (v.process who.pid)))
-    ∙ ap (λ n. cond (not (n == 0)) row no_row) (len-empty nat_cmp Thread)))
+    (λ new own _ _ last. row_dropped S.tables who.pid
+    ∙ sym (ap (λ o. cond (has_thread o) row no_row) (get-remove-same S.processes who.pid)))
     (λ new own _ _ more. sym (ap (λ o. cond (has_thread o) row no_row)
     (get-insert-same S.processes who.pid (without_thread who.tid (unlocked_own lock word who.tid own)))
     ∙ ap (λ b. cond (not b) row no_row) more))
@@ -354,21 +352,21 @@ fork_reported left constants S v who table there seen =
     (λ fd own free has can. forked_reported S who.pid who.tid table left fd own there has can))
 
 -- proc_raise: where the process ends it holds nothing
-kind_reported : (S : State) (p : ℕ) (own : Option ProcessState) (number : ℕ) (signal : Signal) → signal_of number ≡ Some signal → (kind : Raised)
-    → raised_by signal ≡ kind → LeavesRow S p (call.ProcRaise number) (raise_as kind p own signal)
-kind_reported S p own number signal is stops by = refused_reported S p (call.ProcRaise number) Notsup (λ e. cc)
-kind_reported S p own number signal is passes by =
+kind_reported : (S : State) (p : ℕ) (number : ℕ) (signal : Signal) → signal_of number ≡ Some signal → (kind : Raised)
+    → raised_by signal ≡ kind → LeavesRow S p (call.ProcRaise number) (raise_as kind p signal)
+kind_reported S p number signal is stops by = refused_reported S p (call.ProcRaise number) Notsup (λ e. cc)
+kind_reported S p number signal is passes by =
     sym (ap (λ o. raised_row o (row_of S p)) is ∙ ap (λ kind. raised_as kind (row_of S p)) by)
-kind_reported S p own number signal is ends by =
-    row_emptied S.tables p ∙ sym (ap (λ o. raised_row o (row_of S p)) is ∙ ap (λ kind. raised_as kind (row_of S p)) by)
+kind_reported S p number signal is ends by =
+    row_dropped S.tables p ∙ sym (ap (λ o. raised_row o (row_of S p)) is ∙ ap (λ kind. raised_as kind (row_of S p)) by)
 
-signal_reported : (S : State) (p : ℕ) (own : Option ProcessState) (number : ℕ) (o : Option Signal) → signal_of number ≡ o
-    → LeavesRow S p (call.ProcRaise number) (raise_of p own o)
-signal_reported S p own number None is = refused_reported S p (call.ProcRaise number) Inval (λ e. cc)
-signal_reported S p own number (Some signal) is = kind_reported S p own number signal is (raised_by signal) refl
+signal_reported : (S : State) (p : ℕ) (number : ℕ) (o : Option Signal) → signal_of number ≡ o
+    → LeavesRow S p (call.ProcRaise number) (raise_of p o)
+signal_reported S p number None is = refused_reported S p (call.ProcRaise number) Inval (λ e. cc)
+signal_reported S p number (Some signal) is = kind_reported S p number signal is (raised_by signal) refl
 
 raise_reported : (number : ℕ) → IsReported (call.ProcRaise number)
-raise_reported number constants S v who table there seen = signal_reported S who.pid (v.process who.pid) number (signal_of number) refl
+raise_reported number constants S v who table there seen = signal_reported S who.pid number (signal_of number) refl
 
 -- ---- all of them
 

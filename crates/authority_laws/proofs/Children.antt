@@ -20,7 +20,7 @@ use Rattle.kernel_model.specs.State.{ProcessState, State, counts_in}
 use Rattle.kernel_model.specs.Step.{IsStep}
 use Rattle.kernel_model.specs.Threads.{child_made}
 use Rattle.kernel_model.specs.Valid.{IsValid}
-use Rattle.kernel_model.proofs.Births.{child_apart}
+use Rattle.kernel_model.proofs.ChildLaws.{child_apart}
 use Rattle.kernel_model.proofs.ForkLaws.{error_is_none, fork_makes_child, forked_child, made_by_fork, made_where, unmade_where}
 use Rattle.kernel_model.proofs.Sending.{succeeds_or}
 use Rattle.authority_laws.specs.Ledger.{After, after_of, answered_child, by_success, process_of}

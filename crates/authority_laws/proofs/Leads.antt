@@ -27,15 +27,16 @@ use Rattle.kernel_model.specs.Families.Opening.{Opened, NotOpened, OpenedOutside
 use Rattle.kernel_model.specs.Families.TreeUpdates.{Change, change_updates}
 use Rattle.kernel_model.specs.OpenLaws.{IsOpenBelow, LeadsBelow}
 use Rattle.kernel_model.specs.Outcome.{Outcome, OnReply, replies}
-use Rattle.kernel_model.specs.Release.{is_ending, is_node_kept, release, without_ended}
+use Rattle.kernel_model.specs.Release.{ends, is_ending, is_killed, is_node_kept, release, without_ended}
 use Rattle.kernel_model.specs.Reply.{refused, success}
 use Rattle.kernel_model.specs.State.{State, ProcessState, Table, Tree, put_all, set_open, set_table, tree_of}
-use Rattle.kernel_model.specs.Step.{IsStep, outcome, step_answer, tick}
-use Rattle.kernel_model.specs.Valid.{IsNearlyValid}
+use Rattle.kernel_model.specs.Step.{IsStep, outcome, step_answer, tick, unreleased}
+use Rattle.kernel_model.specs.Valid.{IsNearlyValid, IsValid}
 use Rattle.kernel_model.specs.View.{whole}
 use Rattle.kernel_model.proofs.Calls.{proper}
 use Rattle.kernel_model.proofs.FilePaths.{walked_plainly}
-use Rattle.kernel_model.proofs.ObjectNumbers.{fewer_fit, next_is_absent}
+use Rattle.kernel_model.proofs.HeldOpens.{open_holds, spares_all}
+use Rattle.kernel_model.proofs.ObjectNumbers.{next_is_absent}
 use Rattle.kernel_model.proofs.OpenLaws.{opens_lead_below}
 use Rattle.kernel_model.proofs.Opened.{IsThere, OpensWell, opens_well}
 use Rattle.kernel_model.proofs.Outcomes.{outcome_holds}
@@ -120,12 +121,10 @@ module _ (S : State) (p : ℕ) (table : Table) (lookup : Lookup) (path : List �
         → (get S.nodes new ≡ None → OpensWell (tree_of S) new (Opens kind change new_nodes)) → IsOpenBelow (tree_of S) change start new kind
         → Leads S (after fd kind change new_nodes) p lookup.fd
     opening_leads fd kind change new_nodes can by under =
-        let fits = fewer_fit p 1 (new_nodes + 1) own (omega arith) (omega arith) can in
-        let none : get S.nodes new ≡ None = (next_is_absent S p 1 v fits.0 (omega arith) fits.1).1 in
+        let none : get S.nodes new ≡ None = (next_is_absent S p 1 (new_nodes + 1) v (omega arith) (omega arith) can).1 in
         let well = by none in
         let tree = tree_is S p table lookup path oflags stat there own fd kind change (new_nodes + 1) (omega arith) can new new_nodes v.tree well.1 in
         let number = number_is S p table lookup path oflags stat there own fd kind change (new_nodes + 1) (omega arith) can in
-        let last = fewer_fit p (new_nodes + 1) (new_nodes + 1) own (omega arith) (omega arith) can in
         let made = kind_is S p table lookup path oflags stat there own fd kind change (new_nodes + 1) (omega arith) can in
         let u : Tree = tree_of (after fd kind change new_nodes) in
         record {
@@ -135,7 +134,7 @@ module _ (S : State) (p : ℕ) (table : Table) (lookup : Lookup) (path : List �
           held = ap (λ t. row_in t lookup.fd) there ∙ held;
           directory = directory;
           absent = ap (get S.opens) number
-              ∙ (next_is_absent S p (new_nodes + 1) v last.0 (omega arith) last.1).0;
+              ∙ (next_is_absent S p (new_nodes + 1) (new_nodes + 1) v (omega arith) (omega arith) can).0;
           leads = λ other at.
               subst (IsOpenedBelow (tree_of S) u start) (same_some kind other (sym made ∙ at))
               (opened_below (tree_of S) u change start new kind tree none well.2 under);
@@ -238,16 +237,16 @@ was_there : {X : Type 0} (b : Bool) (o : Option X) (x : X) → cond b o None ≡
 was_there true o x e = e
 was_there false o x e = absurd (none_is_no x e)
 
-release_leads : (S U : State) (p fd : ℕ) → IsTree (tree_of U) → Leads (tick S) U p fd → Leads S (release U) p fd
-release_leads S U p fd tree by = record {
+release_leads : (S U : State) (p fd : ℕ) → is_killed U (ends U) p ≡ false → IsTree (tree_of U) → Leads (tick S) U p fd → Leads S (release U) p fd
+release_leads S U p fd spared tree by = record {
   x = by.x;
   start = by.start;
   flags = by.flags;
   held = by.held;
   directory = by.directory;
-  absent = ap (λ (c : Counts). get S.opens (object_of p c.objects)) (left_counts U p) ∙ by.absent;
+  absent = ap (λ (c : Counts). get S.opens (object_of p c.objects)) (left_counts U p spared) ∙ by.absent;
   leads = λ kind now.
-      let number : (last_made (release U) p).number ≡ (last_made U p).number = ap (λ (c : Counts). object_of p c.objects) (left_counts U p) in
+      let number : (last_made (release U) p).number ≡ (last_made U p).number = ap (λ (c : Counts). object_of p c.objects) (left_counts U p spared) in
       let at : get (release U).opens (last_made U p).number ≡ Some kind = ap (get (release U).opens) (sym number) ∙ now in
       below_stays U (tree_of S) by.start kind tree
       (by.leads kind
@@ -255,14 +254,19 @@ release_leads S U p fd tree by = record {
 }
 
 pub step_leads : (constants : Constants) (S : State) (who : Who) (lookup : Lookup) (path : List ℕ) (oflags : ℕ) (stat : FdStat) (reply : Reply) (T : State)
-    → IsStep constants S who (FileOpen lookup path oflags stat) (answer.Reply reply) T → reply.errno ≡ Success → IsNearlyValid S
+    → IsStep constants S who (FileOpen lookup path oflags stat) (answer.Reply reply) T → reply.errno ≡ Success → IsValid S
     → Leads S T who.pid lookup.fd
-step_leads constants S who lookup path oflags stat reply T (inl done) success v =
+step_leads constants S who lookup path oflags stat reply T (inl done) success valid =
     let call = FileOpen lookup path oflags stat in
+    let v = valid.nearly in
     let U : State = put_all (outcome constants S who call).updates (tick S) in
+    let is : unreleased constants S who call ≡ U = replied_leaves constants S who call reply (sym done.0) in
+    let spared : is_killed U (ends U) who.pid ≡ false =
+    subst (λ (X : State). is_killed X (ends X) who.pid ≡ false) is
+    (spares_all constants S who call valid (open_holds constants S who lookup path oflags stat) who.pid) in
     let leads : Leads (tick S) U who.pid lookup.fd =
     on_reply (λ (r : Reply). r.errno ≡ Success → Leads (tick S) U who.pid lookup.fd) (step_answer constants S who call) reply
     (outcome_leads constants S who lookup path oflags stat v) (sym done.0) success in
-    subst (λ (V : State). Leads S V who.pid lookup.fd) (sym (done.1 ∙ ap release (replied_leaves constants S who call reply (sym done.0))))
-    (release_leads S U who.pid lookup.fd (left_is_tree constants S who lookup path oflags stat v) leads)
-step_leads constants S who lookup path oflags stat reply T (inr lacking) success v = no_memory reply lacking.1 success
+    subst (λ (V : State). Leads S V who.pid lookup.fd) (sym (done.1 ∙ ap release is))
+    (release_leads S U who.pid lookup.fd spared (left_is_tree constants S who lookup path oflags stat v) leads)
+step_leads constants S who lookup path oflags stat reply T (inr lacking) success valid = no_memory reply lacking.1 success

@@ -13,6 +13,7 @@ use Rattle.abi_types.specs.declared.descriptor.Descriptor.{Descriptor}
 use Rattle.abi_types.specs.declared.open_kind.OpenKind.{OpenKind}
 use Rattle.abi_types.specs.declared.reply.Answer.TheVariants as answer
 use Rattle.abi_types.specs.declared.reply.Reply.{Reply}
+use Rattle.abi_types.specs.declared.status.Status.TheVariants.{Live}
 use Rattle.abi_types.specs.declared.who.Who.{Who}
 use Rattle.maps.specs.Maps.{get-insert-same}
 use Rattle.kernel_model.specs.Families.Numbers.{can_number, made_more, object_of}
@@ -28,7 +29,8 @@ use Rattle.kernel_model.proofs.PairCalls.{create_holds}
 use Rattle.kernel_model.proofs.Parking.{replied_leaves}
 use Rattle.kernel_model.proofs.Refusals.{on_reply, refusal_is_other}
 use Rattle.kernel_model.proofs.Tests.{none_is_no, same_some}
-use Rattle.kernel_model.proofs.Valids.{left_counts}
+use Rattle.kernel_model.proofs.Touches.{live_spared}
+use Rattle.kernel_model.proofs.Valids.{left_counts, owner_makes}
 use Rattle.authority_laws.specs.Ledger.{is_new, new_descriptor, new_held, new_held_of, recently_made}
 use Rattle.authority_laws.specs.Origins.{PassesOnNothing}
 use Rattle.authority_laws.specs.Traces.{IsMade}
@@ -37,8 +39,10 @@ use Rattle.authority_laws.proofs.Successes.{no_memory}
 
 -- ---- what the process has made
 
--- from the first state to the second the process has made three objects more at least, whose numbers fit
+-- from the first state to the second the process, which is there in the first, has made three objects more at least, whose numbers fit
 pub record Counted (S U : State) (p : ℕ) : Type 0 where
+  pub own : ProcessState
+  pub there : get S.processes p ≡ Some own
   pub small : p < 0xffffffff
   pub more : (counts_in (get S.processes p)).objects + 3 ≤ (counts_in (get U.processes p)).objects
   pub fits : (counts_in (get U.processes p)).objects < 2 ^ 32
@@ -54,14 +58,14 @@ pair_counts S p own table first second pipe there can =
     let now : (counts_in (get (put_all (create_updates pipe p (Some own) table first second) S).processes p)).objects ≡ own.counts.objects + 3 =
     ap (λ o. (counts_in o).objects) (get-insert-same S.processes p (made_more 3 own)) in
     let most = fit.1 in
-    record { small = fit.0; more = omega (arith, before, now); fits = omega (arith, now, most) }
+    record { own = own; there = there; small = fit.0; more = omega (arith, before, now); fits = omega (arith, now, most) }
 pair_counts S p own table first second pair there can =
     let fit = numbers_fit p 3 (Some own) can in
     let before : (counts_in (get S.processes p)).objects ≡ own.counts.objects = ap (λ o. (counts_in o).objects) there in
     let now : (counts_in (get (put_all (create_updates pair p (Some own) table first second) S).processes p)).objects ≡ own.counts.objects + 4 =
     ap (λ o. (counts_in o).objects) (get-insert-same S.processes p (made_more 4 own)) in
     let most = fit.1 in
-    record { small = fit.0; more = omega (arith, before, now); fits = omega (arith, now, most) }
+    record { own = own; there = there; small = fit.0; more = omega (arith, before, now); fits = omega (arith, now, most) }
 
 create_counts : (kind : ℕ) (S : State) (p t : ℕ) (table : Table) → CountsMore S p (create (made_of kind) p t (get S.processes p) table)
 create_counts kind S p t table =
@@ -76,8 +80,8 @@ outcome_counts constants S who kind =
     (λ table own. create_counts kind (tick S) who.pid who.tid table)
 
 pub step_counts : (constants : Constants) (S : State) (who : Who) (kind : ℕ) (reply : Reply) (T : State)
-    → IsStep constants S who (FdCreate2 kind) (answer.Reply reply) T → reply.errno ≡ Success → Counted S T who.pid
-step_counts constants S who kind reply T (inl done) success =
+    → IsStep constants S who (FdCreate2 kind) (answer.Reply reply) T → reply.errno ≡ Success → get T.statuses who.pid ≡ Some Live → Counted S T who.pid
+step_counts constants S who kind reply T (inl done) success live =
     let call = FdCreate2 kind in
     let V : State = put_all (outcome constants S who call).updates (tick S) in
     let set : Counted (tick S) V who.pid =
@@ -85,14 +89,15 @@ step_counts constants S who kind reply T (inl done) success =
     (sym done.0) success in
     let U : State = unreleased constants S who call in
     let moved : Counted (tick S) U who.pid = subst (λ (X : State). Counted (tick S) X who.pid) (sym (replied_leaves constants S who call reply (sym done.0))) set in
-    let left : counts_in (get (release U).processes who.pid) ≡ counts_in (get U.processes who.pid) = left_counts U who.pid in
+    let left : counts_in (get (release U).processes who.pid) ≡ counts_in (get U.processes who.pid) =
+    left_counts U who.pid (live_spared U who.pid (subst (λ (X : State). get X.statuses who.pid ≡ Some Live) done.1 live)) in
     let more = moved.more in
     let fits = moved.fits in
     let same : (counts_in (get (release U).processes who.pid)).objects ≡ (counts_in (get U.processes who.pid)).objects =
     ap (λ (c : Counts). c.objects) left in
     subst (λ (X : State). Counted S X who.pid) (sym done.1)
-    (record { small = moved.small; more = omega (arith, more, same); fits = omega (arith, fits, same) })
-step_counts constants S who kind reply T (inr lacking) success = no_memory reply lacking.1 success
+    (record { own = moved.own; there = moved.there; small = moved.small; more = omega (arith, more, same); fits = omega (arith, fits, same) })
+step_counts constants S who kind reply T (inr lacking) success live = no_memory reply lacking.1 success
 
 -- ---- an end that was made
 
@@ -115,17 +120,24 @@ held_by S U number None d there absent here = absurd (none_is_no d here)
 held_by S U number (Some kind) d there absent here = new_by S U number kind (is_new kind) d refl absent there here
 
 module _ (S U : State) (p : ℕ) (valid : IsValid S) (counted : Counted S U p) where
+  counted_before : (counts_in (get S.processes p)).objects ≡ counted.own.counts.objects
+  counted_before = ap (λ o. (counts_in o).objects) counted.there
+
   -- the last object and the one before it weren't there
   last_absent : get S.opens (object_of p (counts_in (get U.processes p)).objects) ≡ None
   last_absent =
       let more = counted.more in
-      valid.nearly.made p (counts_in (get U.processes p)).objects counted.small (omega (arith, more)) counted.fits
+      let before = counted_before in
+      let last : ℕ = (counts_in (get U.processes p)).objects in
+      valid.nearly.made p last counted.small (owner_makes S p last counted.own valid.nearly counted.there (omega (arith, more, before))) counted.fits
 
   next_absent : get S.opens (object_of p ((counts_in (get U.processes p)).objects - 1)) ≡ None
   next_absent =
       let more = counted.more in
       let fits = counted.fits in
-      valid.nearly.made p ((counts_in (get U.processes p)).objects - 1) counted.small (omega (arith, more)) (omega (arith, fits))
+      let before = counted_before in
+      let next : ℕ = (counts_in (get U.processes p)).objects - 1 in
+      valid.nearly.made p next counted.small (owner_makes S p next counted.own valid.nearly counted.there (omega (arith, more, before))) (omega (arith, fits))
 
   pub last_is_made : (d : Descriptor) → new_held (recently_made U p 0) ≡ Some d → IsMade S U d
   last_is_made d here = held_by S U (object_of p (counts_in (get U.processes p)).objects) _ d refl last_absent here

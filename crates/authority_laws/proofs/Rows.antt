@@ -28,8 +28,8 @@ row_of S p = row_in (get S.tables p)
 pub row_in_empty : row_in (Some empty) ≡ no_row
 row_in_empty = λ i n. get-empty nat_cmp n i
 
-pub row_emptied : (tables : FinMap nat_cmp Table) (p : ℕ) → row_in (get (insert tables p empty) p) ≡ no_row
-row_emptied tables p = ap row_in (get-insert-same tables p empty) ∙ row_in_empty
+pub row_dropped : (tables : FinMap nat_cmp Table) (p : ℕ) → row_in (get (remove tables p) p) ≡ no_row
+row_dropped tables p = ap row_in (get-remove-same tables p)
 
 -- ---- one number
 

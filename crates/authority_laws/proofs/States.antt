@@ -1,5 +1,5 @@
 -- An entry leaves in the kernel's tables what it leaves in the ledger.
-use Rattle.std.proofs.Common.{◌≡◌, ◌≢◌, inl, inr, ℕ, ◌+◌, ◌-◌, ◌==◌, zero, suc, Bool, true, false, not, cond, List, Option, Some, None, is_some, refl, sym, ap, subst, ◌∙◌, arith}
+use Rattle.std.proofs.Common.{◌≡◌, ◌≢◌, inl, inr, ℕ, ◌+◌, ◌-◌, ◌==◌, zero, suc, Bool, true, false, not, cond, List, Option, Some, None, refl, sym, ap, subst, ◌∙◌, arith}
 use Rattle.std.specs.Prelude.{option_map}
 use Rattle.std.proofs.lemmas.Bool.{eq-eqb}
 use Rattle.std.proofs.lemmas.Bool.Decides.{eqb_tells}
@@ -30,23 +30,23 @@ use Rattle.abi_types.specs.declared.counts.Counts.{Counts}
 use Rattle.maps.specs.Maps.{get-insert-same, get-insert-other}
 use Rattle.kernel_model.specs.Families.Numbers.{object_of}
 use Rattle.kernel_model.specs.Families.Opening.{opened_descriptor}
-use Rattle.kernel_model.specs.Release.{ends, is_ending, is_killed, is_released, release, table_left}
+use Rattle.kernel_model.specs.Release.{ends, is_ending, is_released, release}
 use Rattle.kernel_model.specs.Start.{granted_descriptor, granted_table}
 use Rattle.kernel_model.specs.State.{State, Table, Tree, at_status, counts_in, put_all}
-use Rattle.kernel_model.specs.Step.{tick, outcome, step_answer, step_state, unreleased, IsStep, end_unreleased, end_state}
+use Rattle.kernel_model.specs.Step.{tick, outcome, step_answer, step_state, unreleased, IsStep, end_state}
 use Rattle.kernel_model.specs.Valid.{IsValid}
 use Rattle.kernel_model.specs.View.{whole}
 use Rattle.kernel_model.specs.Deadlines.{idle_state}
 use Rattle.kernel_model.specs.Families.Locks.{with_word}
 use Rattle.kernel_model.specs.Waits.{resumed, waiting, waits_if}
 use Rattle.kernel_model.specs.Wakes.{IsWake}
-use Rattle.kernel_model.proofs.Ends.{process_spared, table_after, table_spared}
+use Rattle.kernel_model.proofs.Ends.{process_spared, table_spared}
 use Rattle.kernel_model.proofs.Outcomes.{outcome_holds}
 use Rattle.kernel_model.proofs.Starts.{find_numbered}
 use Rattle.kernel_model.proofs.Steps.{step_moves_only, end_ends_only, unless_killed}
-use Rattle.kernel_model.proofs.Tests.{not_true, none_is_no, same_some}
+use Rattle.kernel_model.proofs.Tests.{none_is_no, same_some}
 use Rattle.kernel_model.proofs.Touches.{live_spared}
-use Rattle.kernel_model.proofs.Valids.{get_released, held_or_carried, held_stays, left_counts, named_is_held, released_stays}
+use Rattle.kernel_model.proofs.Valids.{dead_table, get_released, held_or_carried, held_stays, left_counts, named_is_held, released_stays}
 use Rattle.run_model.proofs.Words.{by_word}
 use Rattle.authority_laws.specs.Ledger.{Row, no_row, has_thread, with_held, Ledger, After, Made, after_of, object_at, process_of, sends_of, waits_for, is_live, is_new, last_made, recently_made, with_row, with_child, of_live, launch_row, launch_ledger, new_descriptor, new_held, new_held_of, granted_row, by_success, answered_row, answered_child}
 use Rattle.authority_laws.specs.Laws.{Holds}
@@ -55,7 +55,7 @@ use Rattle.kernel_model.specs.Threads.{child_made}
 use Rattle.kernel_model.proofs.Parts.{number_apart}
 use Rattle.kernel_model.proofs.Waking.{resumed_valid, same_child}
 use Rattle.authority_laws.proofs.Children.{born_row, child_is}
-use Rattle.authority_laws.proofs.Rows.{LeavesRow, held_elsewhere, held_here, put_twice, row_in, row_of, row_in_empty}
+use Rattle.authority_laws.proofs.Rows.{LeavesRow, held_elsewhere, held_here, put_twice, row_in, row_of}
 
 -- the ledger has each process's row of the state
 abbrev pub HasRows : State → Ledger → Type 0
@@ -132,7 +132,7 @@ new_names_by number kind false d is = absurd (none_is_no d is)
 new_names : (number : ℕ) → NamesOpen (new_held_of number) number
 new_names number = record { none = refl; id = λ kind d is. new_names_by number kind (is_new kind) d is }
 
--- the state after the release, in which each process has of its own what it had before it: what a process has made stays
+-- the state after the release, in which each process has of its own what it had before it: what a process has made that lives stays
 abbrev seen : State → State
 seen U = record (release U) { processes = U.processes }
 
@@ -148,14 +148,14 @@ seen_by_counts : (U : State) (p k : ℕ) → recently_made (seen U) p k ≡ afte
 seen_by_counts U p zero = refl
 seen_by_counts U p (suc k) = refl
 
-seen_made : (U : State) (p k : ℕ) → recently_made (seen U) p k ≡ recently_made (release U) p k
-seen_made U p k =
-    seen_by_counts U p k ∙ ap (λ (c : Counts). after_by (release U) p c k) (sym (left_counts U p)) ∙ sym (made_by_counts (release U) p k)
+seen_made : (U : State) (p k : ℕ) → IsSpared U p → recently_made (seen U) p k ≡ recently_made (release U) p k
+seen_made U p k spared =
+    seen_by_counts U p k ∙ ap (λ (c : Counts). after_by (release U) p c k) (sym (left_counts U p spared)) ∙ sym (made_by_counts (release U) p k)
 
 seen_after : (S U : State) (p : ℕ) → IsSpared U p → after_of S (seen U) p ≡ after_of S (release U) p
 seen_after S U p spared = λ i. record {
-  made = λ k. seen_made U p k i;
-  child = process_of (seen_made U p 0 i).kind;
+  made = λ k. seen_made U p k spared i;
+  child = process_of (seen_made U p 0 spared i).kind;
   opened = λ o. get (release U).opens o;
   sends = sends_of (release U);
   threaded = has_thread (sym (process_spared U (ends U) p spared) i);
@@ -233,16 +233,8 @@ step_row constants S who call given T (inl done) unkilled =
 step_row constants S who call given T (inr lacking) unkilled =
     ap (λ (U : State). row_of U who.pid) lacking.2 ∙ ap (answered_row (after_of S T who.pid) (row_of S who.pid) call) (sym lacking.1)
 
-bare_row : (killed : Bool) → row_in (option_map (table_left killed) (Some empty)) ≡ no_row
-bare_row true = row_in_empty
-bare_row false = row_in_empty
-
-end_row : (S : State) (p : ℕ) (status : Status) → row_of (end_state S p status) p ≡ no_row
-unfolding end_state
-end_row S p status =
-    let U = end_unreleased S p status in
-    ap row_in (table_after U (ends U) p ∙ ap (option_map (table_left (is_killed U (ends U) p))) (get-insert-same S.tables p empty))
-    ∙ bare_row (is_killed U (ends U) p)
+end_row : (S : State) (p : ℕ) (status : Status) → status ≢ Live → row_of (end_state S p status) p ≡ no_row
+end_row S p status dead = ap row_in (end_ends_only S p status dead).gone.0
 
 -- ---- the start
 
@@ -265,18 +257,9 @@ start_rows tree grants p =
 
 -- ---- processes that are not live
 
-absent_row : (t : Option Table) → is_some t ≡ false → row_in t ≡ no_row
-absent_row None h = refl
-absent_row (Some table) h = absurd (not_true (sym h))
-
-ended_by : (S : State) (p : ℕ) (status : Option Status) → IsValid S → get S.statuses p ≡ status → status ≢ Some Live → row_of S p ≡ no_row
-ended_by S p None valid is ends = absent_row (get S.tables p) (valid.nearly.tables p ∙ ap is_some is)
-ended_by S p (Some status) valid is ends =
-    ap row_in (valid.nearly.ended p status is (λ live. ends (ap (λ s. Some s) live))).0 ∙ row_in_empty
-
 -- in a valid state they hold nothing
 pub ended_row : (S : State) (p : ℕ) → IsValid S → get S.statuses p ≢ Some Live → row_of S p ≡ no_row
-ended_row S p valid ends = ended_by S p (get S.statuses p) valid refl ends
+ended_row S p valid ends = ap row_in (dead_table S p valid.nearly ends)
 
 exit_is_not_live : (code : ℕ) → Some (Exit code) ≢ Some Live
 exit_is_not_live code e = cc
@@ -374,7 +357,7 @@ idle_rows S p l valid before = changed S (idle_state S) l p None (l.held p) vali
 pub end_rows : (S : State) (p : ℕ) (status : Status) (l : Ledger) → status ≢ Live → IsValid (end_state S p status) → HasRows S l
     → HasRows (end_state S p status) (of_live (after_of S (end_state S p status) p).live (with_row l p no_row))
 end_rows S p status l ends valid before =
-    changed S (end_state S p status) l p None no_row valid (λ _. end_row S p status)
+    changed S (end_state S p status) l p None no_row valid (λ _. end_row S p status ends)
     (λ q apart live. ap row_in (unless_killed S (end_state S p status) q live ((end_ends_only S p status ends).others q apart)).0 ∙ before q)
 
 -- ---- what a row of a valid state has

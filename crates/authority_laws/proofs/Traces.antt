@@ -17,6 +17,7 @@ use Rattle.abi_types.specs.declared.open_kind.OpenKind.{OpenKind}
 use Rattle.abi_types.specs.declared.reply.Answer.{Answer}
 use Rattle.abi_types.specs.declared.reply.Answer.TheVariants as answer
 use Rattle.abi_types.specs.declared.reply.Reply.{Reply}
+use Rattle.abi_types.specs.declared.status.Status.TheVariants.{Live}
 use Rattle.run_types.specs.declared.history.Act.{Act}
 use Rattle.run_types.specs.declared.history.Act.TheVariants as act
 use Rattle.run_types.specs.declared.history.Entry.{Entry}
@@ -38,7 +39,7 @@ use Rattle.authority_laws.specs.Traces as way
 use Rattle.authority_laws.proofs.Bounds.{opens_are_bounded}
 use Rattle.authority_laws.proofs.Pairs.{Counted, last_is_made, next_is_made, step_counts}
 use Rattle.authority_laws.proofs.Copies.{at_once, called_is, copied, duplicates_are_equal, rights_are_lowered, stepped}
-use Rattle.authority_laws.proofs.Histories.{ledger_none, other_after, own_after, up_to}
+use Rattle.authority_laws.proofs.Histories.{ledger_none, ledger_reports, other_after, own_after, up_to}
 use Rattle.authority_laws.proofs.Origins.{inherits_of_granted, itself, no_more_than_granted}
 use Rattle.authority_laws.proofs.Rows.{held_elsewhere, held_here, row_in, row_of}
 use Rattle.authority_laws.proofs.States.{start_rows}
@@ -190,8 +191,10 @@ module _ (launch : Launch) (front : List Entry) (e : Entry) (begins : MayBegin l
       let U : State = (world launch (front ++ e ∷ [])).state in
       let done = at_once launch front e [] (FdCreate2 kind) reply begins legal refl succeeds in
       let T : State = called_state w.constants S (who_of S e) (FdCreate2 kind) (answer.Reply reply) in
+      let lives : get U.statuses e.pid ≡ Some Live = ((ledger_reports launch (front ++ e ∷ []) begins legal).held e.pid n d here).0 in
       let counts : Counted S T e.pid =
-      step_counts w.constants S (who_of S e) kind reply T (stepped launch front e [] (FdCreate2 kind) reply legal done) done.success in
+      step_counts w.constants S (who_of S e) kind reply T (stepped launch front e [] (FdCreate2 kind) reply legal done) done.success
+      (subst (λ (V : State). get V.statuses e.pid ≡ Some Live) (called_is launch front e (FdCreate2 kind) reply done) lives) in
       let counted : Counted S U e.pid = subst (λ (V : State). Counted S V e.pid) (sym (called_is launch front e (FdCreate2 kind) reply done)) counts in
       let valid = world_is_valid launch front begins (legal_front launch front (e ∷ []) legal) in
       let first : Row = with_held row reply.r1 (new_held (shown.made 1)) in

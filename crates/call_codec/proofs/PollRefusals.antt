@@ -9,9 +9,7 @@ use Rattle.abi_structures.specs.declared.events.What.TheVariants as what
 use Rattle.abi_types.specs.declared.call.Call.{Call}
 use Rattle.abi_types.specs.declared.call.Call.TheVariants.{Poll}
 use Rattle.codec_arguments.specs.Bytes.{bytes_in}
-use Rattle.codec_poll.specs.Found.{all_found, found_at, subscription_of, with_words, worded}
-use Rattle.codec_poll.specs.Poll.{poll_of}
-use Rattle.codec_poll.specs.Rules.{all_known, allowed, known, scopes_in, scopes_known}
+use Rattle.codec_poll.specs.Poll.{all_found, all_known, allowed, found_at, known, poll_of, scopes_in, scopes_known, subscription_of, with_words, worded}
 use Rattle.guest_memory.specs.Page.{Pages}
 use Rattle.call_codec.proofs.Readings.{array_refused, front_refused, gives_after, gives_either, gives_error, gives_memory, gives_value, readings, Gives, IsRefusedAsListed}
 

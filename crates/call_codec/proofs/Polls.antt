@@ -11,9 +11,7 @@ use Rattle.abi_types.specs.declared.call.Call.TheVariants.{Poll}
 use Rattle.codec_arguments.specs.Arguments.{argument}
 use Rattle.codec_arguments.specs.Arrays.{array_at, in_front}
 use Rattle.codec_arguments.specs.Bytes.{bytes_in, word_at, writable}
-use Rattle.codec_poll.specs.Found.{all_found, found_at, subscription_of, with_words, worded}
-use Rattle.codec_poll.specs.Poll.{poll_of}
-use Rattle.codec_poll.specs.Rules.{all_known, allowed}
+use Rattle.codec_poll.specs.Poll.{all_found, all_known, allowed, found_at, poll_of, subscription_of, with_words, worded}
 use Rattle.codec_poll.specs.declared.polling.TheConstants.{MOST_SUBSCRIPTIONS}
 use Rattle.guest_memory.specs.Page.{Pages}
 use Rattle.call_codec.proofs.Readings.{not_refused, passed}

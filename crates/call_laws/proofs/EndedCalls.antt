@@ -1,8 +1,8 @@
 -- How a process ends itself.
-use Rattle.std.proofs.Common.{◌≡◌, inl, inr, ℕ, ◌<◌, ◌==◌, ◌&&◌, false, cond, List, [], ◌∷◌, Option, Some, None, IsSome, refl, sym, ap, ◌∙◌, arith}
+use Rattle.std.proofs.Common.{◌≡◌, ◌≢◌, inl, inr, ℕ, ◌<◌, ◌==◌, false, cond, List, [], ◌∷◌, Some, None, IsSome, refl, sym, ap, ◌∙◌, arith}
 use Rattle.std.proofs.lemmas.Bool.{lt-ltb}
 use Rattle.std.proofs.lemmas.Bool.Decides.{eqb_tells}
-use Rattle.std.specs.FinMap.{empty, get}
+use Rattle.std.specs.FinMap.{get}
 use Rattle.std.specs.Prelude.{nat_lt}
 use Rattle.std.specs.List.{find, list_any}
 use Rattle.abi_base.specs.Signal.{number_of}
@@ -16,21 +16,19 @@ use Rattle.abi_types.specs.declared.reply.Answer.{Answer}
 use Rattle.abi_types.specs.declared.reply.Answer.TheVariants as answer
 use Rattle.abi_types.specs.declared.reply.Reply.{Reply}
 use Rattle.abi_types.specs.declared.status.Status.{Status}
-use Rattle.abi_types.specs.declared.status.Status.TheVariants.{Exit, Killed}
+use Rattle.abi_types.specs.declared.status.Status.TheVariants.{Exit, Killed, Live}
 use Rattle.abi_types.specs.declared.who.Who.{Who}
-use Rattle.maps.specs.Maps.{get-insert-same}
 use Rattle.kernel_model.specs.Calls.{takes_memory}
-use Rattle.kernel_model.specs.Families.ProcessCalls.{end_updates, ended_process, raise_of, signal_of, signals}
+use Rattle.kernel_model.specs.Families.ProcessCalls.{end_updates, raise_of, signal_of, signals}
 use Rattle.kernel_model.specs.Outcome.{Outcome, replies}
-use Rattle.kernel_model.specs.Release.{ends, is_killed, is_of_process, lives}
 use Rattle.kernel_model.specs.Reply.{refused, success}
-use Rattle.kernel_model.specs.State.{ProcessState, State}
-use Rattle.kernel_model.specs.Step.{end_state, end_unreleased, outcome, tick, IsStep}
+use Rattle.kernel_model.specs.State.{State}
+use Rattle.kernel_model.specs.Step.{end_state, outcome, tick, IsStep}
 use Rattle.kernel_model.specs.ThreadLaws.{OnlyAnswers}
 use Rattle.kernel_model.specs.Valid.{IsValid}
-use Rattle.kernel_model.proofs.Ends.{process_spared, status_spared, table_spared}
+use Rattle.kernel_model.proofs.Steps.{end_ends_only}
 use Rattle.kernel_model.proofs.Outcomes.{outcome_of_table}
-use Rattle.kernel_model.proofs.Tests.{and_false, either_false, not_true}
+use Rattle.kernel_model.proofs.Tests.{either_false, not_true}
 use Rattle.kernel_model.proofs.ThreadLaws.{state_of}
 use Rattle.kernel_model.proofs.Touches.{end_is}
 use Rattle.kernel_model.proofs.Valids.{release_valid, tick_valid}
@@ -45,89 +43,62 @@ step_is constants S who call o given T takes is (inr lacking) = absurd (not_true
 
 -- ---- the end
 
-abbrev ended_by : ℕ → Option ProcessState → Status → Outcome
-ended_by p own status = record { answer = answer.Reply (success 0 0); updates = end_updates p own status }
-
--- a process that has ended isn't killed by the release after it
-module _ (S : State) (p : ℕ) (status : Status) (ended : lives (Some status) ≡ false) where
-  abbrev over : State
-  over = end_unreleased S p status
-
-  status_is : get over.statuses p ≡ Some status
-  status_is = get-insert-same S.statuses p status
-
-  spared : is_killed over (ends over) p ≡ false
-  spared =
-      ap (λ s. list_any (λ o. is_of_process p (get over.opens o)) (ends over) && lives s) status_is
-      ∙ ap (λ b. list_any (λ o. is_of_process p (get over.opens o)) (ends over) && b) ended
-      ∙ and_false (list_any (λ o. is_of_process p (get over.opens o)) (ends over))
-
-  status_stands : get (end_state S p status).statuses p ≡ Some status
-  status_stands = ap (λ (V : State). get V.statuses p) (end_is S p status) ∙ status_spared over (ends over) p spared ∙ status_is
-
-  table_is_empty : get (end_state S p status).tables p ≡ Some empty
-  table_is_empty =
-      ap (λ (V : State). get V.tables p) (end_is S p status) ∙ table_spared over (ends over) p spared ∙ get-insert-same S.tables p empty
-
-  process_is_left : (own : ProcessState) → get S.processes p ≡ Some own → get (end_state S p status).processes p ≡ Some (record own { threads = empty })
-  process_is_left own there =
-      ap (λ (V : State). get V.processes p) (end_is S p status) ∙ process_spared over (ends over) p spared
-      ∙ get-insert-same S.processes p (ended_process (get S.processes p)) ∙ ap (λ o. Some (ended_process o)) there
+abbrev ended_by : ℕ → Status → Outcome
+ended_by p status = record { answer = answer.Reply (success 0 0); updates = end_updates p status }
 
 ends_as : (constants : Constants) (S : State) (who : Who) (call : Call) (status : Status) (given : Answer) (T : State) → takes_memory call ≡ false
-    → outcome constants S who call ≡ ended_by who.pid (get S.processes who.pid) status → lives (Some status) ≡ false → IsStep constants S who call given T
-    → EndsAs S who status given T
-ends_as constants S who call status given T takes is ended step =
-    let of = step_is constants S who call (ended_by who.pid (get S.processes who.pid) status) given T takes is step in
+    → outcome constants S who call ≡ ended_by who.pid status → status ≢ Live → IsStep constants S who call given T → EndsAs S who status given T
+ends_as constants S who call status given T takes is dead step =
+    let of = step_is constants S who call (ended_by who.pid status) given T takes is step in
     let state : T ≡ end_state S who.pid status = of.1 ∙ sym (end_is S who.pid status) in
+    let ends = end_ends_only S who.pid status dead in
     record {
       answers = of.0;
       ends = state;
-      stands = ap (λ (V : State). get V.statuses who.pid) state ∙ status_stands S who.pid status ended;
-      bare = ap (λ (V : State). get V.tables who.pid) state ∙ table_is_empty S who.pid status ended;
-      counted = λ own there. ap (λ (V : State). get V.processes who.pid) state ∙ process_is_left S who.pid status ended own there;
+      stands = ap (λ (V : State). get V.statuses who.pid) state ∙ ends.stands;
+      gone = (ap (λ (V : State). get V.tables who.pid) state ∙ ends.gone.0, ap (λ (V : State). get V.processes who.pid) state ∙ ends.gone.1);
     }
 
 pub exit_ends : ExitEnds
 exit_ends constants S who code given T has step =
     let table = the_table (get S.tables who.pid) has in
-    ends_as constants S who (ProcExit code) (Exit code) given T refl (outcome_of_table constants S who (ProcExit code) table.0 table.1) refl step
+    ends_as constants S who (ProcExit code) (Exit code) given T refl (outcome_of_table constants S who (ProcExit code) table.0 table.1) (λ e. cc) step
 
 -- ---- signals
 
 raise_is : (constants : Constants) (S : State) (who : Who) (number : ℕ) → IsSome (get S.tables who.pid)
-    → outcome constants S who (ProcRaise number) ≡ raise_of who.pid (get S.processes who.pid) (signal_of number)
+    → outcome constants S who (ProcRaise number) ≡ raise_of who.pid (signal_of number)
 raise_is constants S who number has =
     let table = the_table (get S.tables who.pid) has in outcome_of_table constants S who (ProcRaise number) table.0 table.1
 
 only_answers : (constants : Constants) (S : State) (who : Who) (number : ℕ) (reply : Reply) (given : Answer) (T : State) → IsValid S → IsSome (get S.tables who.pid)
-    → raise_of who.pid (get S.processes who.pid) (signal_of number) ≡ replies reply → IsStep constants S who (ProcRaise number) given T
+    → raise_of who.pid (signal_of number) ≡ replies reply → IsStep constants S who (ProcRaise number) given T
     → OnlyAnswers S who given T reply
 only_answers constants S who number reply given T valid has is step =
     let of = step_is constants S who (ProcRaise number) (replies reply) given T refl (raise_is constants S who number has ∙ is) step in
     (of.0, of.1 ∙ release_valid (tick S) (tick_valid S valid))
 
-passed_is : (p number : ℕ) (own : Option ProcessState) → IsPassed number → raise_of p own (signal_of number) ≡ replies (success 0 0)
-passed_is p number own (inl is) = ap (λ n. raise_of p own (signal_of n)) is
-passed_is p number own (inr (inl is)) = ap (λ n. raise_of p own (signal_of n)) is
-passed_is p number own (inr (inr is)) = ap (λ n. raise_of p own (signal_of n)) is
+passed_is : (p number : ℕ) → IsPassed number → raise_of p (signal_of number) ≡ replies (success 0 0)
+passed_is p number (inl is) = ap (λ n. raise_of p (signal_of n)) is
+passed_is p number (inr (inl is)) = ap (λ n. raise_of p (signal_of n)) is
+passed_is p number (inr (inr is)) = ap (λ n. raise_of p (signal_of n)) is
 
-stopping_is : (p number : ℕ) (own : Option ProcessState) → IsStopping number → raise_of p own (signal_of number) ≡ replies (refused Notsup)
-stopping_is p number own (inl is) = ap (λ n. raise_of p own (signal_of n)) is
-stopping_is p number own (inr (inl is)) = ap (λ n. raise_of p own (signal_of n)) is
-stopping_is p number own (inr (inr (inl is))) = ap (λ n. raise_of p own (signal_of n)) is
-stopping_is p number own (inr (inr (inr is))) = ap (λ n. raise_of p own (signal_of n)) is
+stopping_is : (p number : ℕ) → IsStopping number → raise_of p (signal_of number) ≡ replies (refused Notsup)
+stopping_is p number (inl is) = ap (λ n. raise_of p (signal_of n)) is
+stopping_is p number (inr (inl is)) = ap (λ n. raise_of p (signal_of n)) is
+stopping_is p number (inr (inr (inl is))) = ap (λ n. raise_of p (signal_of n)) is
+stopping_is p number (inr (inr (inr is))) = ap (λ n. raise_of p (signal_of n)) is
 
-ends_is : (p : ℕ) (own : Option ProcessState) (signal : Signal) → ¬ IsPassed (number_of signal) → ¬ IsStopping (number_of signal)
-    → raise_of p own (signal_of (number_of signal)) ≡ ended_by p own (Killed signal)
-ends_is p own Chld passes stops = absurd (passes (inl refl))
-ends_is p own Cont passes stops = absurd (passes (inr (inl refl)))
-ends_is p own Urg passes stops = absurd (passes (inr (inr refl)))
-ends_is p own Stop passes stops = absurd (stops (inl refl))
-ends_is p own Tstp passes stops = absurd (stops (inr (inl refl)))
-ends_is p own Ttin passes stops = absurd (stops (inr (inr (inl refl))))
-ends_is p own Ttou passes stops = absurd (stops (inr (inr (inr refl))))
-ends_is p own signal passes stops = refl
+ends_is : (p : ℕ) (signal : Signal) → ¬ IsPassed (number_of signal) → ¬ IsStopping (number_of signal)
+    → raise_of p (signal_of (number_of signal)) ≡ ended_by p (Killed signal)
+ends_is p Chld passes stops = absurd (passes (inl refl))
+ends_is p Cont passes stops = absurd (passes (inr (inl refl)))
+ends_is p Urg passes stops = absurd (passes (inr (inr refl)))
+ends_is p Stop passes stops = absurd (stops (inl refl))
+ends_is p Tstp passes stops = absurd (stops (inr (inl refl)))
+ends_is p Ttin passes stops = absurd (stops (inr (inr (inl refl))))
+ends_is p Ttou passes stops = absurd (stops (inr (inr (inr refl))))
+ends_is p signal passes stops = refl
 
 -- no signal has the number 0, nor one over 26
 none_over : (signals : List Signal) (number : ℕ) → list_any (λ s. nat_lt 26 (number_of s)) signals ≡ false → 26 < number
@@ -143,19 +114,19 @@ none_over (signal ∷ rest) number few past =
             | inr other ↦ other.0
           ]
 
-none_is : (p number : ℕ) (own : Option ProcessState) → IsNoSignal number → raise_of p own (signal_of number) ≡ replies (refused Inval)
-none_is p number own (inl is) = ap (λ n. raise_of p own (signal_of n)) is
-none_is p number own (inr past) = ap (raise_of p own) (none_over signals number refl past)
+none_is : (p number : ℕ) → IsNoSignal number → raise_of p (signal_of number) ≡ replies (refused Inval)
+none_is p number (inl is) = ap (λ n. raise_of p (signal_of n)) is
+none_is p number (inr past) = ap (raise_of p) (none_over signals number refl past)
 
 pub raise_ends : RaiseEnds
 raise_ends = record {
   passes = λ constants S who number given T valid has is step.
-      only_answers constants S who number (success 0 0) given T valid has (passed_is who.pid number (get S.processes who.pid) is) step;
+      only_answers constants S who number (success 0 0) given T valid has (passed_is who.pid number is) step;
   stops = λ constants S who number given T valid has is step.
-      only_answers constants S who number (refused Notsup) given T valid has (stopping_is who.pid number (get S.processes who.pid) is) step;
+      only_answers constants S who number (refused Notsup) given T valid has (stopping_is who.pid number is) step;
   none = λ constants S who number given T valid has is step.
-      only_answers constants S who number (refused Inval) given T valid has (none_is who.pid number (get S.processes who.pid) is) step;
+      only_answers constants S who number (refused Inval) given T valid has (none_is who.pid number is) step;
   ends = λ constants S who signal given T has passes stops step.
       ends_as constants S who (ProcRaise (number_of signal)) (Killed signal) given T refl
-      (raise_is constants S who (number_of signal) has ∙ ends_is who.pid (get S.processes who.pid) signal passes stops) refl step;
+      (raise_is constants S who (number_of signal) has ∙ ends_is who.pid signal passes stops) (λ e. cc) step;
 }

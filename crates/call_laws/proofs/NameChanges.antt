@@ -40,7 +40,7 @@ use Rattle.kernel_model.specs.Valid.{IsValid}
 use Rattle.kernel_model.specs.View.{whole}
 use Rattle.kernel_model.specs.Waits.{waiting, waits_if}
 use Rattle.kernel_model.proofs.NameMeanings.{IsBehind, IsGood, IsPlainly, NamesWell}
-use Rattle.kernel_model.proofs.ObjectNumbers.{fewer_fit, next_is_absent}
+use Rattle.kernel_model.proofs.ObjectNumbers.{next_is_absent}
 use Rattle.kernel_model.proofs.Refusals.{same_reply}
 use Rattle.kernel_model.proofs.Tests.{not_true}
 use Rattle.kernel_model.proofs.TreeUpdates.{put_counted}
@@ -168,8 +168,7 @@ module _ (constants : Constants) (S : State) (who : Who) (call : Call) (m : Name
 
   fresh : can_number who.pid m.new_nodes (get S.processes who.pid) ≡ true → m.new_nodes ≢ 0 → get S.nodes new ≡ None
   fresh can some =
-      let fits = fewer_fit who.pid 1 m.new_nodes (get S.processes who.pid) (omega arith) (omega (arith, some)) can in
-      (next_is_absent (tick S) who.pid 1 (tick_valid S valid).nearly fits.0 (omega arith) fits.1).1
+      (next_is_absent (tick S) who.pid 1 m.new_nodes (tick_valid S valid).nearly (omega arith) (omega (arith, some)) can).1
 
   not_done : (errno : Errno) → is_success errno ≡ false → answer.Reply (refused errno) ≡ answer.Reply (success 0 0) → ⊥
   not_done errno fails is = not_true (sym fails ∙ ap (λ (r : Reply). is_success r.errno) (same_reply (refused errno) (success 0 0) is))

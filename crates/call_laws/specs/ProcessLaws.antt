@@ -1,7 +1,7 @@
 -- What proc_exit and proc_raise do, in other words than their meanings: the statements that are the contracts of `processes_end_as_told` in
 -- src/laws.rt.
-use Rattle.std.specs.Prelude.{◌≡◌, ◌⊎◌, ℕ, ◌<◌, Some, IsSome}
-use Rattle.std.specs.FinMap.{empty, get}
+use Rattle.std.specs.Prelude.{◌≡◌, ◌⊎◌, ℕ, ◌<◌, None, Some, IsSome}
+use Rattle.std.specs.FinMap.{get}
 use Rattle.abi_base.specs.Signal.{number_of}
 use Rattle.abi_base.specs.declared.errno.Errno.TheVariants.{Inval, Notsup}
 use Rattle.abi_base.specs.declared.signal.Signal.{Signal}
@@ -13,19 +13,18 @@ use Rattle.abi_types.specs.declared.status.Status.{Status}
 use Rattle.abi_types.specs.declared.status.Status.TheVariants.{Exit, Killed}
 use Rattle.abi_types.specs.declared.who.Who.{Who}
 use Rattle.kernel_model.specs.Reply.{refused, success}
-use Rattle.kernel_model.specs.State.{ProcessState, State}
+use Rattle.kernel_model.specs.State.{State}
 use Rattle.kernel_model.specs.Step.{end_state, IsStep}
 use Rattle.kernel_model.specs.ThreadLaws.{OnlyAnswers}
 use Rattle.kernel_model.specs.Valid.{IsValid}
 
--- The call succeeds, and its process has ended with this status, as from outside. It has no descriptor and no thread left; what it counted,
--- and its depth, stay.
+-- The call succeeds, and its process has ended with this status, as from outside. Nothing else is left of the process: it has no descriptor,
+-- no thread and no counts any more.
 pub record EndsAs (S : State) (who : Who) (status : Status) (given : Answer) (T : State) : Type 0 where
   pub answers : given ≡ answer.Reply (success 0 0)
   pub ends : T ≡ end_state S who.pid status
   pub stands : get T.statuses who.pid ≡ Some status
-  pub bare : get T.tables who.pid ≡ Some empty
-  pub counted : (own : ProcessState) → get S.processes who.pid ≡ Some own → get T.processes who.pid ≡ Some (record own { threads = empty })
+  pub gone : (get T.tables who.pid ≡ None) × (get T.processes who.pid ≡ None)
 
 -- A proc_exit ends its process with the code.
 abbrev pub ExitEnds : Type 0

@@ -37,7 +37,7 @@ pub fn pairs_are_made()
 {}
 
 /// `proc_exit` ends its process with its code. `proc_raise` ends it by the signal, but three signals do nothing, and four and what
-/// is no signal's number are refused. What has ended so has no descriptor and no thread, and keeps its counts.
+/// is no signal's number are refused. Of what has ended so nothing is left but its status.
 pub fn processes_end_as_told()
     ensures exit { ExitEnds }
     ensures raise { RaiseEnds }

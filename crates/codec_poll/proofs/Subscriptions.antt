@@ -7,7 +7,7 @@ use Rattle.abi_structures.specs.declared.events.What.{What}
 use Rattle.abi_structures.specs.declared.events.What.TheVariants as what
 use Rattle.abi_layout.specs.Layout.{number_from}
 use Rattle.abi_layout.specs.Events.{HasNoType, IsSubscriptionIn}
-use Rattle.codec_poll.specs.Found.{subscription_of}
+use Rattle.codec_poll.specs.Poll.{subscription_of}
 
 waits_for : (bytes : List ℕ) (userdata : ℕ) (waited : What) → IsSubscriptionIn bytes (record { userdata = userdata; what = waited })
     → Some (record { userdata = userdata; what = waited }) ≡ subscription_of bytes

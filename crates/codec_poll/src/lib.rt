@@ -4,6 +4,4 @@
 
 pub use polling::{EVENT_SIZE, MOST_SUBSCRIPTIONS, poll};
 
-mod found;
 mod polling;
-mod rules;

@@ -3,7 +3,7 @@
 --     bare, bare_alike      a state without its file tree, which is the same of both
 --     tick_kept, resumed_kept, release_kept, called_kept, end_kept, idle_kept      what each step leaves is the same again
 use Rattle.std.proofs.Common.{◌≡◌, ℕ, ◌+◌, ◌==◌, ◌||◌, not, refl, ap, subst}
-use Rattle.std.specs.Prelude.{⊤, nat_lt, Option}
+use Rattle.std.specs.Prelude.{⊤, nat_lt}
 use Rattle.std.specs.FinMap.{get, empty, retain_keys}
 use Rattle.abi_base.specs.declared.errno.Errno.{Errno}
 use Rattle.abi_base.specs.declared.errno.Errno.TheVariants.{Nomem}
@@ -23,7 +23,7 @@ use Rattle.kernel_model.specs.Deadlines.{idle_state, jumped_to, least_deadline}
 use Rattle.kernel_model.specs.Families.ProcessCalls.{end_updates}
 use Rattle.kernel_model.specs.Laws.{EndsSame}
 use Rattle.kernel_model.specs.Release.{ends, is_killed, is_node_kept, loses_reader, loses_writer, release, without_ended}
-use Rattle.kernel_model.specs.State.{State, ProcessState, Part, at_clock, at_proc, at_status, at_open, at_node, at_names, at_term, at_chan, Agree, put_all}
+use Rattle.kernel_model.specs.State.{State, Part, at_clock, at_proc, at_status, at_open, at_node, at_names, at_term, at_chan, Agree, put_all}
 use Rattle.kernel_model.specs.Step.{tick, outcome, unreleased, step_state, failed, end_unreleased, end_state}
 use Rattle.kernel_model.specs.Waits.{resumed, waiting, waits_if}
 use Rattle.kernel_model.proofs.Decisions.{release_alike}
@@ -139,8 +139,7 @@ module _ (Within : ℕ → Type 0) where
 
   ended_kept : (S U : State) (p : ℕ) (status : Status) → AgreeKept Within S U → AgreeKept Within (end_unreleased S p status) (end_unreleased U p status)
   ended_kept S U p status same q kept =
-      subst (λ (own : Option ProcessState). Agree (end_unreleased S p status) (put_all (end_updates p own status) (tick U)) q) (same (at_proc p) tt).1
-      (put_same (end_updates p (get S.processes p) status) (tick S) (tick U) q (tick_kept S U same q kept))
+      put_same (end_updates p status) (tick S) (tick U) q (tick_kept S U same q kept)
 
   pub end_kept : (S U : State) (p : ℕ) (status : Status) → AgreeKept Within S U → AgreeKept Within (end_state S p status) (end_state U p status)
   unfolding end_state

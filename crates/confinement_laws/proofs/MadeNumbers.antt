@@ -34,11 +34,12 @@ use Rattle.kernel_model.specs.Families.DescriptorCalls.{lowest_free}
 use Rattle.kernel_model.specs.Meaning.{Meaning}
 use Rattle.kernel_model.specs.Outcome.{Outcome}
 use Rattle.kernel_model.specs.OwnChanges.{born_of, child_parts, made_parts, may_bear}
+use Rattle.kernel_model.specs.Release.{lives}
 use Rattle.kernel_model.specs.State.{ProcessState, State, Table, Part, at_names, at_node, counts_in, has_part}
 use Rattle.kernel_model.specs.Step.{made_by, made_on, outcome, outcome_on, tick, unless, unless_refused}
 use Rattle.kernel_model.specs.Valid.{IsValid}
 use Rattle.kernel_model.specs.View.{View, whole}
-use Rattle.kernel_model.proofs.ChildLaws.{process_numbers_are_small}
+use Rattle.kernel_model.proofs.ChildLaws.{process_is_small}
 use Rattle.kernel_model.proofs.ObjectNumbers.{new_part_is}
 use Rattle.kernel_model.proofs.Outcomes.{outcome_reads}
 use Rattle.kernel_model.proofs.Parts.{has_of_both, number_apart}
@@ -208,7 +209,7 @@ module _ (S : State) (who : Who) (c : Call) (own : ProcessState) (valid : IsVali
             let few = ltb-true (meaning_of c).numbers 5 (few_numbers c) in
             let some : 1 ≤ new.0 = new.1 in
             let within : new.0 ≤ (meaning_of c).numbers = new.2 in
-            let small = (process_numbers_are_small S who.pid own valid made).0 in (
+            let small = process_is_small S who.pid own valid.nearly made in (
               many_made who.pid own.counts.objects new.0 n small (omega (arith, few, within)) from
                   (ap (λ objects. who.pid * 2 ^ 32 + (objects + new.0)) (sym counted) ∙ number),
               lt-ltb 0 (meaning_of c).numbers (omega (arith, some, within)),
@@ -233,7 +234,7 @@ module _ (S : State) (who : Who) (c : Call) (own : ProcessState) (valid : IsVali
 
 some_own : (S : State) (p : ℕ) → IsValid S → get S.statuses p ≡ Some Live → (o : Option ProcessState) → get S.processes p ≡ o
     → (own : ProcessState) × (get S.processes p ≡ Some own)
-some_own S p valid live None none = absurd (not_true (sym (ap is_some none) ∙ valid.nearly.owns p ∙ ap is_some live))
+some_own S p valid live None none = absurd (not_true (sym (ap is_some none) ∙ valid.nearly.owns p ∙ ap lives live))
 some_own S p valid live (Some own) there = (own, there)
 
 -- where a part of one of the launch's nodes is among what a call makes, the call sets nothing

@@ -11,8 +11,8 @@ use Rattle.std.specs.Prelude.{⊤}
 use Rattle.std.specs.List.{AllByRecursion}
 use Rattle.abi_base.specs.declared.errno.Errno.{Errno}
 use Rattle.file_calls.specs.Walks.{node_at, node_or_refusal}
-use Rattle.file_calls.specs.declared.path_fault.PathFault.{PathFault}
-use Rattle.file_calls.specs.declared.path_fault.PathFault.TheVariants as path_fault
+use Rattle.file_calls.specs.declared.paths.PathFault.{PathFault}
+use Rattle.file_calls.specs.declared.paths.PathFault.TheVariants as path_fault
 use Rattle.kernel_model.specs.Families.FilePaths.{Walked, Ends, Fails, LeadsOutside}
 use Rattle.kernel_model.specs.Families.LastNames.{LastName, name_at}
 use Rattle.kernel_model.specs.Families.NameMeaning.{NameOutcome, Refuses, LeadsOut, Changes, at_name, unless_fault}

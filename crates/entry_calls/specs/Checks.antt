@@ -1,7 +1,7 @@
 -- What a call would come to, as it is reported before it is done.
 use Rattle.std.specs.Prelude.{◌≡◌, Result, Ok, Err}
-use Rattle.file_calls.specs.declared.path_fault.PathFault.{PathFault}
-use Rattle.file_calls.specs.declared.path_fault.PathFault.TheVariants as path_fault
+use Rattle.file_calls.specs.declared.paths.PathFault.{PathFault}
+use Rattle.file_calls.specs.declared.paths.PathFault.TheVariants as path_fault
 use Rattle.kernel_model.specs.Families.NameMeaning.{NameOutcome, Refuses, LeadsOut, Changes}
 use Rattle.kernel_model.specs.Families.TreeUpdates.{Change}
 

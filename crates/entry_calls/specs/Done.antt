@@ -4,7 +4,7 @@ use Rattle.std.specs.FinMap.{get}
 use Rattle.std.specs.Option.{option_map}
 use Rattle.abi_base.specs.declared.errno.Errno.{Errno}
 use Rattle.abi_types.specs.declared.node.Node.{Node}
-use Rattle.file_calls.specs.declared.path_fault.PathFault.TheVariants as path_fault
+use Rattle.file_calls.specs.declared.paths.PathFault.TheVariants as path_fault
 use Rattle.kernel_model.specs.Families.NameMeaning.{NameOutcome, Refuses, LeadsOut, Changes}
 use Rattle.kernel_model.specs.Families.TreeUpdates.{Change}
 use Rattle.entry_calls.specs.declared.failure.Failure.{Failure}

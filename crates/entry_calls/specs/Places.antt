@@ -1,7 +1,7 @@
 -- The last name of a path as its place gives it.
 use Rattle.std.specs.Prelude.{ℕ, List, Result, Ok, Err}
-use Rattle.file_calls.specs.declared.path_fault.PathFault.{PathFault}
-use Rattle.file_calls.specs.declared.path_fault.PathFault.TheVariants as path_fault
+use Rattle.file_calls.specs.declared.paths.PathFault.{PathFault}
+use Rattle.file_calls.specs.declared.paths.PathFault.TheVariants as path_fault
 use Rattle.kernel_model.specs.Families.LastNames.{LastName, StandsIn, IsNone, IsOutside, name_at}
 use Rattle.entry_calls.specs.declared.places.NamePlace.{NamePlace}
 

@@ -3,8 +3,8 @@ use Rattle.std.specs.Prelude.{◌≡◌, ℕ, true, false, List, [], ◌∷◌, 
 use Rattle.abi_types.specs.declared.node.NodeKind.TheVariants as node
 use Rattle.abi_types.specs.declared.open_kind.OpenKind.{OpenKind}
 use Rattle.abi_types.specs.declared.open_kind.OpenKind.TheVariants as open_kind
-use Rattle.file_calls.specs.declared.path_fault.PathFault.{PathFault}
-use Rattle.file_calls.specs.declared.path_fault.PathFault.TheVariants as path_fault
+use Rattle.file_calls.specs.declared.paths.PathFault.{PathFault}
+use Rattle.file_calls.specs.declared.paths.PathFault.TheVariants as path_fault
 use Rattle.kernel_model.specs.Families.FileChanges.{sized}
 use Rattle.kernel_model.specs.Families.LastNames.{name_at}
 use Rattle.kernel_model.specs.Families.NameMaking.{with_node}

@@ -1,7 +1,7 @@
 //! Why a call on names isn't done.
 ghost use Rattle.std.specs.Prelude.{◌≡◌};
 ghost use Rattle.kernel_model.specs.Families.NameMaking as making;
-ghost use Rattle.file_calls.specs.declared.path_fault.PathFault.TheVariants as path_fault;
+ghost use Rattle.file_calls.specs.declared.paths.PathFault.TheVariants as path_fault;
 ghost use Rattle.entry_calls.specs.Done.{failure_of};
 ghost use Rattle.entry_calls.specs.declared.failure.Failure.TheVariants.{Refused, NoMemory};
 

@@ -7,11 +7,26 @@ ghost use Rattle.entry_calls.specs.Done.{IsDone};
 
 use crate::failure::{Failure, errno_of, failed, refused_with};
 use crate::places::{NamePlace, last_name, name_at};
-use crate::times::node_of;
-use abi_types::{Bytes, Errno, NodeKind, ObjId, OpenKind};
+use abi_types::{Bytes, Errno, Node, NodeKind, ObjId, OpenKind, Times};
 use file_calls::{path_error, set_modified};
 use file_tree::Tree;
 use std::alloc::Global;
+
+// A node that is made now, before it has a name.
+fn node_of(kind: NodeKind, now: u64) -> Node
+    ensures { result ≡ model.node_of kind now }
+{
+    let times = Times {
+        atim: now,
+        mtim: now,
+        ctim: now,
+    };
+    Node {
+        kind,
+        times,
+        links: 0,
+    }
+}
 
 /// A new node with its first name.
 pub fn make_in(

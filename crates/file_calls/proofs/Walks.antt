@@ -10,7 +10,7 @@ use Rattle.path_lookup.specs.declared.ends.WalkFault.TheVariants as fault
 use Rattle.kernel_model.specs.Families.FilePaths.{Walked, Ends, Fails, LeadsOutside, at_end, at_walked, longest_path, path_error}
 use Rattle.kernel_model.specs.Outcome.{Outcome, replies}
 use Rattle.file_calls.specs.Walks.{going_on, node_at, node_or_refusal, reply_of}
-use Rattle.file_calls.specs.declared.path_fault.PathFault.{PathFault}
+use Rattle.file_calls.specs.declared.paths.PathFault.{PathFault}
 
 end_goes_on : (goes : ℕ → Outcome) (end : End) → at_end goes end ≡ going_on goes (node_at end)
 end_goes_on goes (end.Found n) = refl

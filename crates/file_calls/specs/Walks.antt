@@ -8,8 +8,8 @@ use Rattle.path_lookup.specs.declared.ends.End.TheVariants as end
 use Rattle.kernel_model.specs.Families.FilePaths.{Walked, Ends, Fails, LeadsOutside}
 use Rattle.kernel_model.specs.Outcome.{Outcome, replies}
 use Rattle.kernel_model.specs.Reply.{denied, refused}
-use Rattle.file_calls.specs.declared.path_fault.PathFault.{PathFault}
-use Rattle.file_calls.specs.declared.path_fault.PathFault.TheVariants.{Errno, Outside}
+use Rattle.file_calls.specs.declared.paths.PathFault.{PathFault}
+use Rattle.file_calls.specs.declared.paths.PathFault.TheVariants.{Errno, Outside}
 
 -- what a call answers that is refused
 abbrev pub reply_of : PathFault → Reply

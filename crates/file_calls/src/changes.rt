@@ -9,8 +9,7 @@ ghost use Rattle.kernel_model.specs.Families.FilePaths as paths;
 ghost use Rattle.file_calls.specs.Done.{HasSameNodes, IsDone, IsTreeDone};
 ghost use Rattle.file_calls.specs.Opens.{IsThere};
 
-use crate::path_fault::reply_of;
-use crate::paths::{found, lookup_mode};
+use crate::paths::{found, lookup_mode, reply_of};
 use abi_structures::FileStat;
 use abi_types::flags::{
     FILESTAT_ATIM, FILESTAT_ATIM_NOW, FILESTAT_MTIM, FILESTAT_MTIM_NOW, FILESTAT_SIZE,

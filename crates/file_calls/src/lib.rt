@@ -10,8 +10,7 @@
 
 pub use changes::{set_modified, set_size};
 pub use dispatch::on_open;
-pub use path_fault::{PathFault, reply_of};
-pub use paths::{found, lookup_mode, path_error, walked};
+pub use paths::{PathFault, found, lookup_mode, path_error, reply_of, walked};
 pub use reading::read_file;
 pub use stats::type_number;
 pub use writing::overwrite;
@@ -19,7 +18,6 @@ pub use writing::overwrite;
 mod changes;
 mod dispatch;
 mod listings;
-mod path_fault;
 mod paths;
 mod reading;
 mod stats;

@@ -1,19 +1,50 @@
-//! Where the path of a call leads.
+//! Where the path of a call leads, and why a call goes no further whose path leads nowhere.
 ghost use Rattle.std.specs.Prelude.{◌≡◌, ◌<◌, ◌^◌, Some, Err};
 ghost use Rattle.std.specs.Str.{is_utf8};
 ghost use Rattle.path_lookup.proofs.Outside.{LeavesBy};
+ghost use Rattle.abi_types.specs.declared.descriptor.Denial.TheVariants as denial;
 ghost use Rattle.kernel_model.specs.Families.FilePaths as paths;
-ghost use Rattle.file_calls.specs.Walks.{end_or_refusal, node_at, node_or_refusal};
+ghost use Rattle.kernel_model.specs.Reply.{denied};
+ghost use Rattle.file_calls.specs.Walks.{end_or_refusal, node_at, node_or_refusal, reply_of};
 
-use crate::path_fault::PathFault;
 use abi_types::flags::LOOKUP_SYMLINK_FOLLOW;
-use abi_types::{Errno, ObjId, OpenKind};
+use abi_types::{Denial, Errno, ObjId, OpenKind, Reply};
 use file_tree::Tree;
 use path_lookup::{End, WalkFault, WalkMode};
+use right_rules::refused;
 use std::str;
 
 // The most bytes of a path.
 const LONGEST_PATH: usize = 1024;
+
+/// Why a call by a path goes no further.
+#[derive(Clone, Copy, Debug, PartialEq, Eq)]
+pub enum PathFault {
+    /// This error.
+    Errno(Errno),
+    /// The path leads outside the directory where it begins, at the component with this index, counted from 0.
+    Outside(u32),
+}
+
+// A call is denied for a path that leads outside at this component.
+fn denied_outside(component: u32) -> Reply
+    ensures { result ≡ denied (denial.Outside component) }
+{
+    Reply {
+        denial: Some(Denial::Outside { component }),
+        ..refused(Errno::Notcapable)
+    }
+}
+
+/// What a call answers that is refused.
+pub fn reply_of(refusal: PathFault) -> Reply
+    ensures { result ≡ reply_of refusal }
+{
+    match refusal {
+        PathFault::Errno(errno) => refused(errno),
+        PathFault::Outside(component) => denied_outside(component),
+    }
+}
 
 /// What a walk does with a symlink that is last, by a call's lookup flags.
 pub fn lookup_mode(flags: u32) -> WalkMode

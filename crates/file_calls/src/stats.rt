@@ -7,8 +7,7 @@ ghost use Rattle.kernel_model.specs.Outcome.{replies};
 ghost use Rattle.kernel_model.specs.Start.{launch_object};
 ghost use Rattle.file_calls.specs.Opens.{IsThere};
 
-use crate::path_fault::reply_of;
-use crate::paths::{found, lookup_mode};
+use crate::paths::{found, lookup_mode, reply_of};
 use abi_structures::FileStat;
 use abi_types::flags::{
     FILETYPE_CHARACTER_DEVICE, FILETYPE_DIRECTORY, FILETYPE_FIFO, FILETYPE_PROCESS,

@@ -6,8 +6,7 @@ ghost use Rattle.kernel_model.specs.Families.FilePaths as model;
 ghost use Rattle.file_calls.specs.Done.{IsReadDone};
 
 use crate::listings::{content, room_of};
-use crate::path_fault::reply_of;
-use crate::paths::found;
+use crate::paths::{found, reply_of};
 use abi_types::{Bytes, Errno, NodeKind, ObjId, OpenKind, Reply};
 use file_tree::Tree;
 use path_lookup::WalkMode;

@@ -7,9 +7,8 @@ ghost use Rattle.guest_locks.specs.Queues.{AreFew};
 ghost use Rattle.guest_locks.specs.Told.{TellsOf};
 
 use crate::queues::{earliest_in, front, some_waits};
-use crate::stages::is_late;
 use crate::told::Told;
-use crate::waits::{Queue, is_reader, waits_for};
+use crate::waits::{Queue, is_late, is_reader, waits_for};
 use crate::words::{MANAGED, Release, WRITTEN, release_of};
 use abi_types::{Stage, Thread, Tid};
 use maps::NumMap;

@@ -7,16 +7,15 @@
 pub use handing::{hand_on, unlock};
 pub use queues::{front, some_sleeps, some_waits};
 pub use signals::signal;
-pub use stages::{goes_on, has_left, is_late, stage_after};
 pub use subscriptions::set_word;
 pub use taking::{Taking, ask, is_written_by, retake};
 pub use told::Told;
+pub use waits::{goes_on, has_left, is_late, stage_after};
 pub use words::managed_word;
 
 mod handing;
 mod queues;
 mod signals;
-mod stages;
 mod subscriptions;
 mod taking;
 mod told;

@@ -36,7 +36,8 @@ use Rattle.call_codec.specs.Arguments.{args_of}
 use Rattle.call_codec.specs.Given.{given_of, CanWait}
 use Rattle.call_codec.specs.Put.{HasFewRanges}
 use Rattle.call_codec.proofs.Puts.{few_ranges}
-use Rattle.kernel_core.specs.Waiting.{caller, kept_call, waiter}
+use Rattle.kernel_invariant.specs.Waiting.{waiter}
+use Rattle.kernel_core.specs.Waiting.{caller, kept_call}
 use Rattle.kernel_model.specs.Deadlines.{idle_state}
 use Rattle.kernel_model.specs.Outcome.{is_parked}
 use Rattle.kernel_model.specs.State.{ProcessState, State, counts_in, thread_of}
@@ -70,11 +71,9 @@ use Rattle.kernel_cell.specs.Results.{Threads, act_of, after_call, after_wake, e
 use Rattle.kernel_cell.specs.Asking.{Answers, AsksCall, AsksEnd, AsksWake, HasNoChild}
 use Rattle.kernel_cell.specs.Recorded.{IsRecorded}
 use Rattle.kernel_cell.specs.declared.results.After.{After}
-use Rattle.kernel_cell.specs.declared.results.After.TheVariants as to
 use Rattle.kernel_cell.specs.declared.results.Asked.{Asked}
 use Rattle.kernel_cell.specs.declared.results.Asked.TheVariants as asked
 use Rattle.kernel_cell.specs.declared.results.Body.{Body}
-use Rattle.kernel_cell.specs.declared.results.Came.{Came}
 use Rattle.kernel_cell.specs.declared.results.Came.TheVariants as came
 use Rattle.kernel_cell.specs.declared.results.EndBy.{EndBy}
 use Rattle.kernel_cell.specs.declared.results.Idled.TheVariants as idle

@@ -17,9 +17,10 @@ use crate::results::{
     After, Asked, Body, Came, EndBy, Idled, act_of, after_call, after_wake, child_guest,
     child_told, if_live, keep_place, leave_place, make_place, number_for, status_of, unless_lost,
 };
-use abi_types::{Call, Constants, Pid, Tid, TidList};
+use abi_types::{Call, Constants, Pid, Tid};
 use guest_process::Guest;
 use kernel_core::{Kernel, Woken};
+use run_types::TurnList;
 use shared_history::{EntryHead, Keeper, Kept, Naming, Pass, Passes, idle_entry};
 use std::alloc::Global;
 use std::mem;
@@ -120,7 +121,7 @@ impl<J: Naming> Locked<J> {
     }
 
     // The head of the entry that is now, with the turns that no entry had.
-    fn head(&self, pid: Pid, tid: Tid, turns: &mut TidList) -> EntryHead
+    fn head(&self, pid: Pid, tid: Tid, turns: &mut TurnList) -> EntryHead
         ensures head { result ≡ record { moment = self.now.kernel.clock; pid = pid; tid = tid; turns = turns.old } }
         ensures none { turns.new ≡ [] }
     {
@@ -128,7 +129,7 @@ impl<J: Naming> Locked<J> {
             moment: self.kernel.moment(),
             pid,
             tid,
-            turns: mem::replace(turns, TidList::new(self.alloc)),
+            turns: mem::replace(turns, TurnList::new(self.alloc)),
         }
     }
 
@@ -206,7 +207,7 @@ impl<J: Naming> Locked<J> {
     }
 
     // The end of a process from outside, by a thread of it.
-    fn end(&mut self, passes: &Passes<J>, pid: Pid, tid: Tid, turns: &mut TidList, how: EndBy)
+    fn end(&mut self, passes: &Passes<J>, pid: Pid, tid: Tid, turns: &mut TurnList, how: EndBy)
         requires recorded { IsInOrder J.launch J.keeps_all self.old }
         requires held { self.old.keeper.held ≡ pid ∷ [] }
         requires room { HasRoom self.old.kept }

@@ -15,11 +15,11 @@ ghost use Rattle.kernel_model.specs.Step.{IsStep};
 ghost use Rattle.kernel_model.specs.Threads.{child_told, next_number};
 ghost use Rattle.kernel_cell.specs.Results.{act_of, after_call, after_wake, end_of, if_live, status_of, unless_lost, with_made, without_place, HasPlace, IsPlaceFor};
 
-use abi_types::{Answer, Call, Payload, Pid, Signal, Status, Tid, TidList};
+use abi_types::{Answer, Call, Payload, Pid, Signal, Status, Tid};
 use guest_process::{Guest, begins_program, ends_caller, makes_thread};
 use kernel_core::Kernel;
 use maps::NumMap;
-use run_types::Act;
+use run_types::{Act, TurnList};
 use std::alloc::{AllocError, Global};
 
 /// What a thread does.
@@ -38,7 +38,7 @@ pub struct Body {
     /// What each of its threads does, by the thread's number.
     pub threads: NumMap<Doing>,
     /// Which threads took the turns that no entry has yet, in their order.
-    pub turns: TidList,
+    pub turns: TurnList,
 }
 
 /// How a process is ended from outside.

@@ -46,7 +46,7 @@ use Rattle.kernel_core.proofs.Acts.{act_allowed, allowed_by, done_exactly, lack_
 use Rattle.kernel_core.proofs.Done.{answered_as, replied}
 use Rattle.kernel_core.proofs.Families.{lock_poll_does}
 use Rattle.kernel_core.proofs.OwnCalls.{own_valid, waited_only, OnlyOwn}
-use Rattle.kernel_core.proofs.Parks.{owner}
+use Rattle.kernel_invariant.proofs.Parks.{owner}
 
 may_by : (b : Bool) (first : Subscription) (rest : _) → (poll_by b (first ∷ rest)).may_wait ≡ true
 may_by true first rest = refl

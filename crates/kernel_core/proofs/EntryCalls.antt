@@ -38,13 +38,13 @@ use Rattle.kernel_model.proofs.NameMaking.{making_text_well, making_well}
 use Rattle.kernel_model.proofs.NameMeanings.{IsBehind, IsGood, NamesWell}
 use Rattle.kernel_model.proofs.NameMoving.{renaming_well}
 use Rattle.kernel_model.proofs.NameRemoving.{unlinking_well}
-use Rattle.kernel_model.proofs.ObjectNumbers.{fewer_fit, next_is_absent, numbers_fit}
+use Rattle.kernel_model.proofs.ObjectNumbers.{next_is_absent}
 use Rattle.kernel_model.proofs.Tests.{none_is_no, not_true, same_some}
 use Rattle.entry_calls.specs.Done.{IsNew}
 use Rattle.kernel_core.specs.Entries.{entry_outcome, entries_come}
 use Rattle.kernel_parts.specs.Entries.{IsLeftBy, open_at, open_in}
 use Rattle.kernel_core.proofs.FileCalls.{opened_is}
-use Rattle.kernel_core.proofs.Leaving.{left_of, released_is}
+use Rattle.kernel_invariant.proofs.Leaving.{left_of, released_is}
 
 -- ---- the opens of descriptors
 
@@ -139,8 +139,7 @@ first_is_named table unnamed fd other is all = absurd (none_is_no (fd, other) is
 pub next_is_new : (S : State) (p new_nodes : ℕ) → can_number p new_nodes (get S.processes p) ≡ true → IsNearlyValid S → IsNew new_nodes (tree_of S) (next_object p (get S.processes p) new_nodes)
 next_is_new S p zero can v = tt
 next_is_new S p (suc new_nodes) can v =
-    let fits = numbers_fit p new_nodes (get S.processes p) can in
-    ap is_none (next_is_absent S p (suc new_nodes) v fits.0 (omega arith) fits.1).1
+    ap is_none (next_is_absent S p (suc new_nodes) (suc new_nodes) v (omega arith) (omega arith) can).1
 
 -- ---- the state after it
 
@@ -159,8 +158,7 @@ module _ (constants : Constants) (S : State) (p : ℕ) (table : Table) (fd : ℕ
   names_good v can =
       (entries_well called some_named).good (real_time constants S.clock) (next_object p (get S.processes p) 1) S (open_in S.opens (get table fd)) (open_at S.opens table other)
       (behind_in S (get table fd) v) (behind_at S table other v) v.tree (λ some.
-      let fits = fewer_fit p 1 (name_meaning called).new_nodes (get S.processes p) (omega arith) (omega (arith, some)) can in
-      (next_is_absent S p 1 v fits.0 (omega arith) fits.1).1)
+      (next_is_absent S p 1 (name_meaning called).new_nodes v (omega arith) (omega (arith, some)) can).1)
 
   module _ (own new : ProcessState) (there : get S.processes p ≡ Some own) (v : IsValid S) (u : Tree) (reply : Reply)
       (done : IsLeftBy p (name_meaning called).new_nodes own new (tree_of S) u (entries_come constants S p table fd other called) reply) where

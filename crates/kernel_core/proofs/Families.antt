@@ -43,7 +43,7 @@ use Rattle.kernel_model.proofs.Polls.{told_holds}
 use Rattle.kernel_parts.specs.Changes.{HasReplaced, change_outcome}
 use Rattle.poll_set.specs.Polls.{poll_outcome, sight}
 use Rattle.poll_set.proofs.PollReads.{poll_reads, poll_takes_memory}
-use Rattle.kernel_core.proofs.Changes.{put_is}
+use Rattle.kernel_invariant.proofs.Changes.{put_is}
 
 -- ---- the descriptors of a view
 

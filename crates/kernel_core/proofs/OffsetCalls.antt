@@ -57,7 +57,7 @@ use Rattle.kernel_parts.specs.Entries.{open_in}
 use Rattle.kernel_model.specs.Done.{IsAnswered, IsDone}
 use Rattle.kernel_core.specs.OffsetCalls.{offset_outcome}
 use Rattle.kernel_parts.specs.StreamCalls.{IsStreamDone, stream_outcome, terms_after}
-use Rattle.kernel_core.proofs.Channels.{end_is}
+use Rattle.kernel_invariant.proofs.Channels.{end_is}
 use Rattle.kernel_core.proofs.FileCalls.{tree_valid, with_tree}
 
 -- ---- what the calls mean

@@ -22,8 +22,8 @@ use Rattle.abi_types.specs.declared.reply.Reply.{Reply}
 use Rattle.abi_types.specs.declared.who.Who.{Who}
 use Rattle.fd_table.specs.Table.{IsLowestFree}
 use Rattle.file_calls.specs.Walks.{reply_of}
-use Rattle.file_calls.specs.declared.path_fault.PathFault.{PathFault}
-use Rattle.file_calls.specs.declared.path_fault.PathFault.TheVariants as path_fault
+use Rattle.file_calls.specs.declared.paths.PathFault.{PathFault}
+use Rattle.file_calls.specs.declared.paths.PathFault.TheVariants as path_fault
 use Rattle.maps.specs.Maps.{get-insert-other, total, total-insert, total-insert_new, weight}
 use Rattle.tree_model.specs.Opens.{is_used, one_of_node, opens_of_node}
 use Rattle.tree_model.specs.Retained.{retained}
@@ -52,7 +52,7 @@ use Rattle.entry_calls.specs.declared.plans.OpenPlan.{OpenPlan}
 use Rattle.kernel_parts.specs.Entries.{open_in}
 use Rattle.kernel_core.specs.Opening.{IsOpening, open_outcome, opened_at}
 use Rattle.kernel_parts.specs.declared.opens.Opening.{Opening}
-use Rattle.kernel_core.proofs.Leaving.{counted_is, none_holds_or_carries, released_is}
+use Rattle.kernel_invariant.proofs.Leaving.{counted_is, none_holds_or_carries, released_is}
 use Rattle.kernel_parts.proofs.Forgetting.{forgetting_none, used_still}
 use Rattle.kernel_parts.proofs.Lowest.{lowest_is}
 use Rattle.kernel_core.proofs.FileCalls.{opened_is}
@@ -140,15 +140,13 @@ module _ (S : State) (p : ℕ) (table : Table) (lookup : Lookup) (path : List �
   open_fits = fewer_fit p (new_nodes + 1) (new_nodes + 1) (get S.processes p) (omega arith) (omega arith) planned.can
 
   pub open_is_new : get S.opens o.descriptor.id ≡ None
-  open_is_new = ap (get S.opens) id_is ∙ (next_is_absent S p (new_nodes + 1) v.nearly open_fits.0 (omega arith) open_fits.1).0
+  open_is_new = ap (get S.opens) id_is ∙ (next_is_absent S p (new_nodes + 1) (new_nodes + 1) v.nearly (omega arith) (omega arith) planned.can).0
 
   pub none_holds_it : holders S o.descriptor.id + carriers S o.descriptor.id ≡ 0
   none_holds_it = none_holds_or_carries S o.descriptor.id open_is_new v.nearly
 
   first_absent : get S.nodes first ≡ None
-  first_absent =
-      let fits = fewer_fit p 1 (new_nodes + 1) (get S.processes p) (omega arith) (omega arith) planned.can in
-      (next_is_absent S p 1 v.nearly fits.0 (omega arith) fits.1).1
+  first_absent = (next_is_absent S p 1 (new_nodes + 1) v.nearly (omega arith) (omega arith) planned.can).1
 
   new_first : (count : ℕ) → IsNew count (tree_of S) first
   new_first zero = tt

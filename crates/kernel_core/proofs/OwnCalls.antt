@@ -5,20 +5,21 @@
 --     own_left, own_kept, own_released      the state after them
 --     IsOwnCall, own_call, own_call_kept, own_call_done      a call that comes to such updates: its state is kept, and it is done
 use Rattle.std.proofs.Common.{◌≡◌, ◌⊎◌, ℕ, true, false, List, [], ◌∷◌, Bool, Option, None, Some, IsSome, is_some, Result, Ok, Err, inl, inr, refl, sym, ap, subst, ◌∙◌}
+use Rattle.std.proofs.lemmas.Bool.Decides.{eqb_tells}
 use Rattle.std.specs.Ordering.{nat_cmp}
-use Rattle.std.specs.FinMap.{FinMap, get}
+use Rattle.std.specs.FinMap.{FinMap, get, insert, remove}
 use Rattle.std.specs.declared.alloc.AllocError.{AllocError}
 use Rattle.abi_structures.specs.declared.events.What.{What}
 use Rattle.clock_random.specs.Random.{words_of}
 use Rattle.abi_types.specs.declared.constants.Constants.{Constants}
 use Rattle.abi_types.specs.declared.reply.Answer.{Answer}
-use Rattle.maps.specs.Maps.{insert-again}
+use Rattle.maps.specs.Maps.{get-insert-other, get-remove-same, get-remove-other, insert-again, same_numbers}
 use Rattle.kernel_model.specs.Families.ClockCalls.{drawn_by}
 use Rattle.abi_types.specs.declared.status.Status.TheVariants.{Exit}
 use Rattle.abi_types.specs.declared.thread.Stage.{Stage}
 use Rattle.kernel_model.specs.Families.LockCalls.{signal_in, unlock_in, waited_outcome}
 use Rattle.kernel_model.specs.Families.Locks.{Release, handed, handed_own, handed_word, hands_on, leaves, refuses, release_of, released_threads, released_word, signalled, signalled_own, unlocked_own, with_threads}
-use Rattle.kernel_model.specs.Families.ProcessCalls.{end_updates, ended_process, is_last_thread, left_if_last, left_updates, made_in}
+use Rattle.kernel_model.specs.Families.ProcessCalls.{end_updates, is_last_thread, left_if_last, left_updates, made_in}
 use Rattle.kernel_model.specs.Outcome.{Outcome}
 use Rattle.kernel_model.specs.OwnChanges.{drawn_more, with_next_thread, without_thread}
 use Rattle.kernel_model.specs.Release.{release}
@@ -35,10 +36,10 @@ use Rattle.kernel_model.proofs.ThreadCalls.{made_holds}
 use Rattle.kernel_model.proofs.Valids.{release_valid}
 use Rattle.kernel_parts.specs.OwnCalls.{own_after, IsOwnDone}
 use Rattle.kernel_model.specs.Done.{IsDone}
-use Rattle.kernel_core.specs.Kernel.{IsKept}
+use Rattle.kernel_invariant.specs.Held.{IsKept}
 use Rattle.kernel_core.specs.Threads.{is_last_in}
 use Rattle.kernel_core.proofs.Done.{done_as, done_seen}
-use Rattle.kernel_core.proofs.Leaving.{process_again, with_process}
+use Rattle.kernel_invariant.proofs.Leaving.{process_again, with_process}
 
 -- ---- such updates
 
@@ -108,7 +109,7 @@ waited_stays userdata what p t stage own u =
     subst (λ (x : ProcessState). is_some (get (handed_own lock had).threads u) ≡ is_some (get x.threads u)) (sym (same_some own had there)) (handed_keeps lock had.threads u).here)
 
 -- what is left as the last thread ends, and as another does
-pub left_last : (p t : ℕ) (o : Option ProcessState) → is_last_in t o ≡ true → left_updates p t o ≡ end_updates p o (Exit 0)
+pub left_last : (p t : ℕ) (o : Option ProcessState) → is_last_in t o ≡ true → left_updates p t o ≡ end_updates p (Exit 0)
 left_last p t None last = refl
 left_last p t (Some own) last = ap (λ b. left_if_last b p t own) last
 
@@ -116,10 +117,19 @@ pub left_alone : (p t : ℕ) (own : ProcessState) → is_last_in t (Some own) �
     → left_updates p t (Some own) ≡ set_process p (without_thread t own) ∷ []
 left_alone p t own apart = ap (λ b. left_if_last b p t own) apart
 
+-- what is taken away doesn't count any more
+remove-again : (m : FinMap nat_cmp ProcessState) (p : ℕ) (own : ProcessState) → remove (insert m p own) p ≡ remove m p
+remove-again m p own =
+    same_numbers _ _ (λ q.
+    elim (eqb_tells q p) [
+      | inl is ↦ ap (get (remove (insert m p own) p)) is.1 ∙ get-remove-same (insert m p own) p ∙ sym (ap (get (remove m p)) is.1 ∙ get-remove-same m p)
+      | inr other ↦ get-remove-other (insert m p own) p q other.1 ∙ get-insert-other m p own q other.1 ∙ sym (get-remove-other m p q other.1)
+    ])
+
 -- as a thread ends that has let a lock go, what was left of that doesn't matter
 again_by : (S : State) (p t : ℕ) (own : ProcessState) (b : Bool) → put_all (left_if_last b p t own) (with_process S p own) ≡ put_all (left_if_last b p t own) S
 again_by S p t own true =
-    (let same = insert-again S.processes p own (ended_process (Some own)) in λ i. record (put_all (end_updates p (Some own) (Exit 0)) S) { processes = same i })
+    (let same = remove-again S.processes p own in λ i. record (put_all (end_updates p (Exit 0)) S) { processes = same i })
 again_by S p t own false = (let same = insert-again S.processes p own (without_thread t own) in λ i. record S { processes = same i })
 
 pub left_again : (S : State) (p t : ℕ) (own : ProcessState) → put_all (left_updates p t (Some own)) (with_process S p own) ≡ put_all (left_updates p t (Some own)) S

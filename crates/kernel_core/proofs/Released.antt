@@ -19,9 +19,9 @@ use Rattle.kernel_parts.proofs.Releases.{release_besides}
 use Rattle.wait_set.specs.Waits.{WaitMap}
 use Rattle.readiness_laws.specs.Watched.{looked_at}
 use Rattle.readiness_laws.proofs.Watched.{touched_is_watched}
-use Rattle.kernel_core.specs.Kernel.{AreHeld, IsKept}
-use Rattle.kernel_core.proofs.Channels.{AreCounted}
-use Rattle.kernel_core.proofs.Kept.{AreSmall, below_released, small_released}
+use Rattle.kernel_invariant.specs.Held.{AreHeld, IsKept}
+use Rattle.kernel_invariant.proofs.Channels.{AreCounted}
+use Rattle.kernel_invariant.proofs.Kept.{AreSmall, below_released, small_released}
 
 -- what the release is given of a state
 abbrev pub parts : State → State

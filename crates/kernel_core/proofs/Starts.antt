@@ -7,11 +7,11 @@ use Rattle.std.specs.FinMap.{FinMap, get, get-empty, get-from_entries, insert, e
 use Rattle.abi_base.specs.declared.grant.Grant.{Grant}
 use Rattle.channel_calls.specs.Calls.{AreFew, carriers_in}
 use Rattle.maps.specs.Maps.{number, get-insert-same, get-insert-other, total, total-empty, total-insert_new}
-use Rattle.kernel_core.specs.Kernel.{IsKept}
+use Rattle.kernel_invariant.specs.Held.{IsKept}
 use Rattle.fd_table.specs.Sizes.{KeysBelow, below-empty, below-insert, none_there}
 use Rattle.kernel_model.proofs.Tests.{none_is_no}
 use Rattle.kernel_parts.specs.Start.{granted_objects}
-use Rattle.kernel_core.proofs.Kept.{AreSmall, small_set}
+use Rattle.kernel_invariant.proofs.Kept.{AreSmall, small_set}
 use Rattle.kernel_model.specs.Release.{carried_in, carriers, names_open, count_in, holders}
 use Rattle.tree_model.specs.Grants.{AreGrants, MayBegin}
 use Rattle.kernel_model.specs.Start.{first_open, numbered, granted_descriptor, granted_table, start_state}

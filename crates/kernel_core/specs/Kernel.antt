@@ -1,28 +1,9 @@
--- What the kernel's code keeps beside its state.
-use Rattle.std.specs.Prelude.{◌≡◌, ℕ, ◌+◌, ◌^◌, Bool, true, false, Some, is_some}
-use Rattle.std.specs.Ordering.{nat_cmp}
-use Rattle.std.specs.FinMap.{FinMap, get}
-use Rattle.maps.specs.Maps.{number, least_key}
+-- Which processes live.
+use Rattle.std.specs.Prelude.{Bool, true, false, is_some}
+use Rattle.maps.specs.Maps.{least_key}
 use Rattle.abi_types.specs.declared.status.Status.{Status}
 use Rattle.abi_types.specs.declared.status.Status.TheVariants.{Live, Exit, Killed}
-use Rattle.channel_calls.specs.Calls.{AreFew}
-use Rattle.kernel_model.specs.Release.{carriers, holders}
-use Rattle.fd_table.specs.Sizes.{KeysBelow}
-use Rattle.fd_table.specs.Table.{IsTable}
-use Rattle.kernel_model.specs.State.{State, Table}
-use Rattle.kernel_model.specs.Valid.{IsValid}
-use Rattle.kernel_parts.specs.Touching.{HasNoLast}
-use Rattle.readiness_laws.specs.Watched.{AreEntries, looked_at}
-use Rattle.wait_set.specs.Waits.{WaitMap}
-
--- The state is valid, each open's count is that of its holders and its carriers, of which there are few, and tables and processes have
--- numbers that fit their types.
-pub record IsKept (S : State) (counts : FinMap nat_cmp ℕ) : Type 0 where
-  pub valid : IsValid S
-  pub counted : (o : ℕ) → number (get counts o) ≡ holders S o + carriers S o
-  pub few : AreFew S.chans
-  pub small : (p : ℕ) (table : Table) → get S.tables p ≡ Some table → IsTable table
-  pub processes : KeysBelow (2 ^ 32) S.tables
+use Rattle.kernel_model.specs.State.{State}
 
 -- whether the status is that of a live process
 abbrev pub is_live : Status → Bool
@@ -33,16 +14,3 @@ is_live (Killed signal) = false
 -- whether some process is live
 abbrev pub any_live : State → Bool
 any_live S = is_some (least_key (λ _ status. is_live status) S.statuses)
-
--- ---- the threads that wait
-
--- Each live thread has its entry, and one that waits is marked as ready where it is, unless it is left to be looked at (IsWatched). No entry has the number
--- that is left out of the last process.
-pub record AreHeld (S : State) (W : WaitMap) : Type 0 where
-  pub watched : AreEntries S W
-  pub last : HasNoLast W
-
--- all that is kept beside the state
-pub record IsHeld (S : State) (counts : FinMap nat_cmp ℕ) (W : WaitMap) : Type 0 where
-  pub kept : IsKept S counts
-  pub waits : AreHeld (looked_at S) W

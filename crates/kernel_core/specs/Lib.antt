@@ -6,7 +6,4 @@ pub mod Opening
 pub mod Waiting
 pub mod Threads
 pub mod Ends
-pub mod Sockets
-pub mod Forks
 pub mod Programs
-pub mod Readiness

@@ -1,27 +1,26 @@
 //! The calls that look at a process's descriptors or change them.
-ghost use Rattle.std.specs.Prelude.{◌≡◌, Some, IsSome};
+ghost use Rattle.std.specs.Prelude.{◌≡◌, Some, true};
 ghost use Rattle.std.specs.FinMap as map;
 ghost use Rattle.abi_types.specs.Families.{call_of_change};
 ghost use Rattle.abi_types.specs.declared.reply.Answer.TheVariants as answer;
 ghost use Rattle.kernel_model.specs.Done.{IsDone};
 ghost use Rattle.kernel_model.specs.Calls.{takes_memory};
 ghost use Rattle.kernel_model.specs.Families.DescriptorCalls.{stat_get, stat_of, flags_of};
+ghost use Rattle.kernel_model.specs.Release.{lives};
 ghost use Rattle.kernel_model.specs.State.{Table};
 ghost use Rattle.kernel_model.specs.View.{whole};
 ghost use Rattle.kernel_parts.specs.Changes.{change_outcome, HasReplaced};
-ghost use Rattle.kernel_core.specs.Readiness.{number_changed, number_given, open_changed, AreLeftBy};
+ghost use Rattle.kernel_invariant.specs.Readiness.{number_changed, number_given, open_changed};
 
 use crate::kernel::Kernel;
-use crate::readiness::touch_number_of;
 use abi_types::{
     Answer, Descriptor, DescriptorChange, Errno, FdStat, OpenKind, Payload, Pid, Reply,
 };
 use file_calls::type_number;
-use kernel_parts::{ProcessState, change_table, open_of, release, touch_end};
-use maps::NumMap;
+use kernel_invariant::touch_changed;
+use kernel_parts::{change_table, open_of, release};
 use right_rules::{refused, success_with};
 use std::alloc::AllocError;
-use wait_set::WaitSet;
 
 // An open's flags. A process has none.
 fn flags_of(kind: &OpenKind) -> u16
@@ -45,23 +44,6 @@ fn stat_of(descriptor: &Descriptor, kind: &OpenKind) -> FdStat
         flags: flags_of(kind),
         base: descriptor.base,
         inheriting: descriptor.inheriting,
-    }
-}
-
-// Those that wait on the number, or at the open's channels, are left.
-fn touch_changed(
-    waits: &mut WaitSet,
-    processes: &NumMap<ProcessState>,
-    pid: Pid,
-    changed: &(Option<u32>, Option<OpenKind>),
-)
-    ensures { AreLeftBy pid (map.get processes.now pid) changed.now.0 changed.now.1 waits.old waits.new }
-{
-    if let Some(fd) = changed.0 {
-        touch_number_of(waits, processes, pid, fd);
-    }
-    if let Some(kind) = &changed.1 {
-        touch_end(waits, kind);
     }
 }
 
@@ -108,7 +90,7 @@ impl Kernel {
         pid: Pid,
         change: DescriptorChange,
     ) -> Result<Answer, AllocError>
-        requires there { IsSome (map.get self.old.statuses pid) }
+        requires there { lives (map.get self.old.statuses pid) ≡ true }
         requires replaced { (table : Table) → map.get self.old.tables pid ≡ Some table → HasReplaced table change }
         ensures { (table : Table) → map.get self.old.tables pid ≡ Some table
             → IsDone (takes_memory (call_of_change change)) (change_outcome pid self.old.opens table change)

@@ -1,5 +1,5 @@
 //! The call that makes two ends: of a pipe, or of a pair of sockets.
-ghost use Rattle.std.specs.Prelude.{◌≡◌, Some, IsSome, IfOk, IfErr, true};
+ghost use Rattle.std.specs.Prelude.{◌≡◌, Some, IfOk, IfErr, true};
 ghost use Rattle.std.specs.FinMap as map;
 ghost use Rattle.std.specs.Option.{option_map};
 ghost use Rattle.channel_calls.specs.Pairs.{model_of};
@@ -7,14 +7,15 @@ ghost use Rattle.kernel_model.specs.Done.{IsDone};
 ghost use Rattle.kernel_core.specs.Ends.{IsPair};
 ghost use Rattle.kernel_model.specs.Families.SocketCalls as model;
 ghost use Rattle.kernel_model.specs.Outcome.{replies};
+ghost use Rattle.kernel_model.specs.Release.{lives};
 ghost use Rattle.kernel_model.specs.State.{Table};
 ghost use Rattle.kernel_model.specs.Valid.{IsValid};
 
 use crate::kernel::Kernel;
-use crate::readiness::touch_number_of;
 use abi_types::flags::{FILETYPE_FIFO, FILETYPE_SOCKET_STREAM};
 use abi_types::{Answer, Errno, ObjId, Reply, Who};
 use channel_calls::{Pair, PairKind, put_pair};
+use kernel_invariant::touch_number_of;
 use kernel_parts::release;
 use right_rules::{refused, success};
 use std::alloc::AllocError;
@@ -78,7 +79,7 @@ impl Kernel {
 
     // Makes two ends with their channels, at the lowest free numbers. `Err` changes nothing.
     pub(crate) fn fd_create2(&mut self, who: &Who, kind: u32) -> Result<Answer, AllocError>
-        requires there { IsSome (map.get self.old.statuses who.now.pid) }
+        requires there { lives (map.get self.old.statuses who.now.pid) ≡ true }
         requires valid { IsValid self.old }
         ensures { (table : Table) → map.get self.old.tables who.now.pid ≡ Some table
             → IsDone true (model.create (model.made_of kind) who.now.pid who.now.tid (map.get self.old.processes who.now.pid) table)

@@ -1,11 +1,12 @@
 //! The calls that make names of files, move them or take them away.
-ghost use Rattle.std.specs.Prelude.{◌≡◌, ◌+◌, ◌<◌, ◌^◌, Some, IsSome};
+ghost use Rattle.std.specs.Prelude.{◌≡◌, ◌+◌, ◌<◌, ◌^◌, Some, IsSome, true};
 ghost use Rattle.std.specs.FinMap as map;
 ghost use Rattle.abi_types.specs.Families.{call_of_entry};
 ghost use Rattle.kernel_model.specs.Done.{IsDone};
 ghost use Rattle.kernel_core.specs.Entries.{entry_outcome};
 ghost use Rattle.kernel_model.specs.Calls.{takes_memory};
 ghost use Rattle.kernel_model.specs.Families.EntryCalls as model;
+ghost use Rattle.kernel_model.specs.Release.{lives};
 ghost use Rattle.kernel_model.specs.State.{Table};
 
 use crate::kernel::Kernel;
@@ -24,7 +25,7 @@ impl Kernel {
         other: Option<u32>,
         call: EntryCall<'_>,
     ) -> Result<Answer, AllocError>
-        requires there { IsSome (map.get self.old.statuses pid) }
+        requires there { lives (map.get self.old.statuses pid) ≡ true }
         requires on { model.entry_fds (call_of_entry call) ≡ Some (fd, other) }
         requires named { (table : Table) → map.get self.old.tables pid ≡ Some table → IsSome (map.get table fd) }
         requires early { self.old.clock + constants.now.epoch < 2 ^ 64 }

@@ -1,19 +1,19 @@
 //! The call that makes a child of a process.
-ghost use Rattle.std.specs.Prelude.{◌≡◌, ℕ, Some, IsSome, IfOk, IfErr, OnOk, OnErr, true};
+ghost use Rattle.std.specs.Prelude.{◌≡◌, ℕ, Some, IfOk, IfErr, OnOk, OnErr, true};
 ghost use Rattle.std.specs.FinMap as map;
 ghost use Rattle.kernel_model.specs.Done.{IsDone};
-ghost use Rattle.kernel_core.specs.Forks.{IsChildOf};
+ghost use Rattle.kernel_invariant.specs.Forks.{IsChildOf};
 ghost use Rattle.kernel_model.specs.Families.DescriptorCalls.{lowest_free};
 ghost use Rattle.kernel_model.specs.Families.ForkCalls.{fork_at, fork_updates, forked_reply};
 ghost use Rattle.kernel_model.specs.Outcome.{replies};
-ghost use Rattle.kernel_model.specs.Release.{release};
+ghost use Rattle.kernel_model.specs.Release.{lives, release};
 ghost use Rattle.kernel_model.specs.State.{ProcessState, put_all, Table};
 ghost use Rattle.kernel_model.specs.Valid.{IsValid};
 ghost use Rattle.process_calls.specs.Forks.{IsPlan};
 
 use crate::kernel::Kernel;
-use crate::readiness::touch_number_of;
 use abi_types::{Answer, Errno, Payload, Pid, Reply, Who};
+use kernel_invariant::touch_number_of;
 use kernel_parts::{ensure_entry, thread_key};
 use process_calls::{NewChild, plan_child, put_child};
 use right_rules::{refused, success_with};
@@ -68,7 +68,7 @@ impl Kernel {
 
     // Makes a child of the process, with copies of its descriptors. `Err` changes nothing.
     pub(crate) fn proc_fork(&mut self, who: &Who, left: u64) -> Result<Answer, AllocError>
-        requires there { IsSome (map.get self.old.statuses who.now.pid) }
+        requires there { lives (map.get self.old.statuses who.now.pid) ≡ true }
         requires valid { IsValid self.old }
         ensures { (table : Table) → map.get self.old.tables who.now.pid ≡ Some table
             → IsDone true (fork_at left who.now.pid who.now.tid (map.get self.old.processes who.now.pid) table (lowest_free table))

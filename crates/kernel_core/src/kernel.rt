@@ -2,14 +2,16 @@
 ghost use Rattle.std.specs.Prelude.{◌≡◌, ◌≢◌, ◌⊎◌, ◌∷◌, ◌+◌, ◌^◌, ◌<◌, ◌≤◌, ◌↔◌, ℕ, [], Some, None, IsSome, IfOk, OnErr, IsTrue, IsFalse, false, true, length, option_copied, unwrap_or};
 ghost use Rattle.std.specs.FinMap as map;
 ghost use Rattle.abi_types.specs.declared.descriptor.Denial.TheVariants as denial;
-ghost use Rattle.kernel_core.specs.Kernel.{is_live, any_live};
+ghost use Rattle.kernel_core.specs.Kernel.{any_live};
 ghost use Rattle.kernel_core.specs.Waiting.{caller};
-ghost use Rattle.kernel_model.specs.Calls.{named, need};
+ghost use Rattle.kernel_model.specs.Calls.{meaning_of, named, need, refusal_of, takes_memory};
+ghost use Rattle.kernel_model.specs.Done.{IsDone};
+ghost use Rattle.kernel_model.specs.Families.Polls.{begins_with_lock};
 ghost use Rattle.kernel_model.specs.Laws.{HasAll, IsFirstLack, IsNotDeniedEarly, IsOfFirstLack, IsOfPath};
 ghost use Rattle.kernel_model.specs.Need.{missing};
 ghost use Rattle.kernel_model.specs.Outcome.{IsSuccess};
 ghost use Rattle.kernel_model.specs.Families.ProcessCalls.{end_updates};
-ghost use Rattle.kernel_model.specs.Release.{release, is_released};
+ghost use Rattle.kernel_model.specs.Release.{lives, release, is_released};
 ghost use Rattle.kernel_model.specs.Reply.{denied};
 ghost use Rattle.tree_model.specs.Grants.{MayBegin};
 ghost use Rattle.kernel_model.specs.Sight.{process_parts};
@@ -19,26 +21,28 @@ ghost use Rattle.abi_types.specs.declared.call.Call.TheVariants as call;
 ghost use Rattle.abi_types.specs.declared.constants.Constants.{Constants};
 ghost use Rattle.abi_types.specs.declared.reply.Answer.{Answer};
 ghost use Rattle.kernel_model.specs.State.{State, put_all, Table, Part, has_part, Agree, thread_of, tree_of, written_to};
-ghost use Rattle.kernel_model.specs.Step.{failed, outside, IsStep, IsUntouched, end_unreleased, end_state, step_answer};
+ghost use Rattle.kernel_model.specs.Step.{failed, outcome_by, outside, IsStep, IsUntouched, end_unreleased, end_state, step_answer};
 ghost use Rattle.kernel_model.specs.Valid.{IsValid};
+ghost use Rattle.kernel_model.specs.View.{whole};
 ghost use Rattle.kernel_parts.specs.Keys.{key};
 ghost use Rattle.wait_set.specs.Waits.{fresh};
 
-use crate::readiness::touch_time;
 use abi_types::{
-    Answer, Call, Constants, Denial, Descriptor, Errno, Needed, Pid, Reply, Status, Thread, Tid,
-    TryClone, Who,
+    Answer, Call, Constants, Denial, Descriptor, Errno, Family, Needed, Pid, Reply, Status,
+    Subscription, Thread, Tid, TryClone, Who,
 };
 use channel_calls::Channels;
 use fd_table::FdTable;
 use file_tree::Tree;
+use kernel_invariant::touch_time;
 use kernel_parts::{
-    ProcessState, Terminal, granted, let_go_all, release, single, streams, thread_key, touch_ended,
+    CLOCK_RESOLUTION, ProcessState, Terminal, drop_table, granted, placed, release, single,
+    streams, thread_key, touch_ended,
 };
 use maps::NumMap;
 use object_store::Objects;
-use poll_set::lock_subscription;
-use right_rules::refused;
+use poll_set::{lock_subscription, poll};
+use right_rules::{refusal, refused, success};
 use run_types::Launch;
 use std::alloc::{AllocError, Global};
 use std::marker::Model;
@@ -66,7 +70,7 @@ pub struct Kernel {
 impl Model for Kernel {
     ghost use Rattle.kernel_model.specs.State.{State, no_state};
     ghost use Rattle.kernel_model.specs.Codes.{state_code};
-    ghost use Rattle.kernel_core.specs.Kernel.{IsHeld};
+    ghost use Rattle.kernel_invariant.specs.Held.{IsHeld};
 
     ghost Value = { State };
 
@@ -75,13 +79,6 @@ impl Model for Kernel {
     ghost view = { λ k. record no_state { clock = k.clock; tables = k.tables; processes = k.processes; statuses = k.statuses; opens = k.objects.kinds; nodes = k.tree.nodes; names = k.tree.names; terms = k.terms; chans = k.channels } };
 
     ghost invariant = { λ k. IsHeld (record no_state { clock = k.clock; tables = k.tables; processes = k.processes; statuses = k.statuses; opens = k.objects.kinds; nodes = k.tree.nodes; names = k.tree.names; terms = k.terms; chans = k.channels }) k.objects.counts k.waits };
-}
-
-// Whether the status is that of a live process.
-fn is_live(status: &Status) -> bool
-    ensures { result ≡ is_live status.now }
-{
-    matches!(status, Status::Live)
 }
 
 // The first thread, alone.
@@ -116,17 +113,17 @@ impl Kernel {
         })
     }
 
-    // Ends a process: it has this status, no descriptor and no thread, and what nothing holds any more ends.
+    // Ends a process: it has this status, and nothing of its own any more, and what nothing holds any more ends.
     pub(crate) fn end_process(&mut self, pid: Pid, status: Status)
-        requires { IsSome (map.get self.old.statuses pid) }
-        ensures { self.new ≡ release (put_all (end_updates pid (map.get self.old.processes pid) status) self.old) }
+        requires live { lives (map.get self.old.statuses pid) ≡ true }
+        requires dead { status ≢ Status.Live }
+        ensures { self.new ≡ release (put_all (end_updates pid status) self.old) }
     {
         let p = u64::from(pid.0);
         self.statuses.replace(p, status);
         touch_ended(&mut self.waits, pid);
-        let own = self.processes.get_mut(p);
-        own.end();
-        let_go_all(self.tables.get_mut(p), &mut self.objects);
+        self.processes.remove(p);
+        drop_table(&mut self.tables, p, &mut self.objects);
         release(
             &mut self.objects,
             &mut self.tree,
@@ -136,6 +133,90 @@ impl Kernel {
             &mut self.channels,
             &mut self.waits,
         );
+    }
+
+    // The refusal of a call by its process's table, if there is one.
+    pub(crate) fn refusal_of(&self, pid: Pid, call: &Call) -> Option<Reply>
+        ensures refusal { result ≡ refusal_of call.now (map.get self.now.tables pid) }
+        ensures valid { IsValid self.now }
+    {
+        match self.tables.get(u64::from(pid.0)) {
+            Some(table) => refusal(table, call),
+            None => Some(refused(Errno::Badf)),
+        }
+    }
+
+    // A poll that begins with no lock and no condition variable, where its process has a table.
+    fn plain_poll(
+        &self,
+        constants: &Constants,
+        who: &Who,
+        subscriptions: &[Subscription],
+    ) -> Result<Answer, AllocError>
+        requires plain { begins_with_lock subscriptions.now ≡ false }
+        ensures { (table : Table) → map.get self.now.tables who.now.pid ≡ Some table
+            → IsDone (takes_memory (call.Poll subscriptions.now)) ((meaning_of (call.Poll subscriptions.now)).effect constants.now (whole self.now) who.now table)
+            self.now self.now result }
+    {
+        let Some(table) = self.tables.get(u64::from(who.pid.0)) else {
+            return Ok(Answer::Reply(refused(Errno::Badf)));
+        };
+        let around = self.around(constants);
+        poll(self.alloc, around, table, who.since, subscriptions)
+    }
+
+    // Does a call, but for the clock, that is no poll of a lock or a condition variable. `Err` comes only of a call that takes memory and would
+    // else succeed, and changes nothing.
+    pub(crate) fn dispatch(
+        &mut self,
+        constants: &Constants,
+        who: &Who,
+        call: &Call,
+    ) -> Result<Answer, AllocError>
+        requires there { lives (map.get self.old.statuses who.now.pid) ≡ true }
+        requires events { (meaning_of call.now).by_stage ≡ false }
+        requires early { self.old.clock + constants.now.epoch < 2 ^ 64 }
+        ensures { IsDone (takes_memory call.now) (outcome_by constants.now (whole self.old) who.now call.now)
+            self.old self.new result }
+    {
+        if let Some(reply) = self.refusal_of(who.pid, call) {
+            return Ok(Answer::Reply(reply));
+        }
+        match call.family() {
+            Family::Descriptors(change) => self.change_descriptors(who.pid, change),
+            Family::DescriptorState { fd } => Ok(Answer::Reply(self.fd_stat_get(who.pid, fd))),
+            Family::File(view) => self.file_call(constants, who.pid, view.fd(), view),
+            Family::Offset(view) => self.offset_call(constants, who.pid, view.fd(), view),
+            Family::Entries(view) => {
+                let (fd, other) = view.fds();
+                self.entry_call(constants, who.pid, fd, other, view)
+            }
+            Family::Open(view) => self.file_open(constants, who.pid, &view),
+            Family::Ends { kind } => self.fd_create2(who, kind),
+            Family::Socket(view) => self.socket_call(who.pid, view),
+            Family::Exit { code } => {
+                self.end_process(who.pid, Status::Exit(code));
+                Ok(Answer::Reply(success(0, 0)))
+            }
+            Family::Fork { left } => self.proc_fork(who, left),
+            Family::Exec { fd, fds } => self.proc_exec(constants, who, fd, fds),
+            Family::Raise { signal } => Ok(Answer::Reply(self.proc_raise(who, signal))),
+            Family::Poll(subscriptions) => self.plain_poll(constants, who, subscriptions),
+            Family::Unlock { lock, word, .. } => Ok(self.lock_unlock(who, lock, word)),
+            Family::Signal { condvar, n, .. } => Ok(self.condvar_signal(who, condvar, n)),
+            Family::ClockResolution { .. } => Ok(Answer::Reply(success(CLOCK_RESOLUTION, 0))),
+            Family::ClockTime { clock, .. } => {
+                Ok(Answer::Reply(self.clock_time(constants, clock)))
+            }
+            Family::Random { length } => self.random_get(constants, who.pid, length),
+            Family::NewThread(_) => self.thread_create(who),
+            Family::ThreadExit { lock, word, .. } => {
+                Ok(Answer::Reply(self.thread_exit(who, lock, word)))
+            }
+            Family::Zeros(place) => Ok(Answer::Reply(placed(place))),
+            Family::Answered(errno) => Ok(Answer::Reply(refused(errno))),
+            Family::NotBuilt => Ok(Answer::Reply(refused(Errno::Nosys))),
+        }
     }
 
     // A call of a thread that runs, with the clock. Where its thread waits in it the call is copied.
@@ -213,6 +294,7 @@ impl Kernel {
     /// Ends a live process from outside, by a trap or at the end of its turns. It takes 1000 nanoseconds.
     pub fn end(&mut self, pid: Pid, status: Status)
         requires live { map.get self.old.statuses pid ≡ Some Status.Live }
+        requires dead { status ≢ Status.Live }
         requires early { self.old.clock < 2 ^ 63 }
         ensures end { self.new ≡ end_state self.old pid status }
         ensures valid { IsValid self.new }
@@ -237,9 +319,7 @@ impl Kernel {
         ensures value { result ≡ any_live self.now }
         ensures live { IsTrue result ↔ ((p : ℕ) × (map.get self.now.statuses p ≡ Some Status.Live)) }
     {
-        self.statuses
-            .first_where(|status| is_live(status))
-            .is_some()
+        !self.processes.is_empty()
     }
 
     /// The moment, in nanoseconds.

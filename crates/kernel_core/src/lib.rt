@@ -7,7 +7,6 @@ pub use waiting::Woken;
 
 mod clocks;
 mod descriptors;
-mod dispatch;
 mod ends;
 mod entries;
 mod files;
@@ -18,7 +17,6 @@ mod offset_calls;
 mod opening;
 mod programs;
 mod random;
-mod readiness;
 mod signals;
 mod sockets;
 mod thread_numbers;

@@ -4,39 +4,25 @@ ghost use Rattle.std.specs.FinMap as map;
 ghost use Rattle.kernel_model.specs.Done.{IsAnswered};
 ghost use Rattle.kernel_model.specs.Families.LockCalls.{signal_in, unlock_in, waited_outcome};
 ghost use Rattle.kernel_model.specs.Outcome.{is_parked};
+ghost use Rattle.kernel_model.specs.Release.{lives};
 ghost use Rattle.kernel_model.specs.State.{thread_of};
 ghost use Rattle.kernel_model.specs.Step.{step_answer, IsStep};
 ghost use Rattle.kernel_model.specs.Valid.{IsValid};
 ghost use Rattle.kernel_model.specs.Waits.{may_wait, waiting, with_thread};
-ghost use Rattle.kernel_model.specs.Wakes.{may_queue, LacksNoMemory};
+ghost use Rattle.kernel_model.specs.Wakes.{LacksNoMemory};
 ghost use Rattle.poll_set.specs.Polls.{BeginsWith};
 
 use crate::kernel::{Kernel, STEP_TIME};
-use crate::readiness::touch_time;
-use abi_types::{Answer, Call, Constants, Errno, Stage, Subscription, TryClone, What, Who};
+use abi_types::{Answer, Call, Constants, Errno, Subscription, TryClone, Who};
 use guest_locks::Told;
+use kernel_invariant::touch_time;
 use kernel_parts::touch_told;
-use poll_set::lock_subscription;
 use right_rules::refused;
-
-// Whether a thread may wait on after a wake that had come so far: one that was signalled at its condition variable, or whose time had come
-// there, may wait for the lock.
-pub(crate) fn may_queue(call: &Call, stage: Stage) -> bool
-    ensures { result ≡ may_queue call.now (Some stage) }
-{
-    if !matches!(stage, Stage::Begun | Stage::Signalled) {
-        return false;
-    }
-    match lock_subscription(call) {
-        Some(first) => matches!(first.what, What::Condvar { .. }),
-        None => false,
-    }
-}
 
 impl Kernel {
     // Lets go of the lock at this address, whose word is this.
     pub(crate) fn lock_unlock(&mut self, who: &Who, lock: u64, word: u32) -> Answer
-        requires there { IsSome (map.get self.old.statuses who.now.pid) }
+        requires there { lives (map.get self.old.statuses who.now.pid) ≡ true }
         ensures { IsAnswered (unlock_in who.now.pid who.now.tid lock word (map.get self.old.processes who.now.pid))
             self.old self.new result }
     {
@@ -49,7 +35,7 @@ impl Kernel {
 
     // Signals so many of the threads that wait at the condition variable at this address.
     pub(crate) fn condvar_signal(&mut self, who: &Who, condvar: u64, n: u32) -> Answer
-        requires there { IsSome (map.get self.old.statuses who.now.pid) }
+        requires there { lives (map.get self.old.statuses who.now.pid) ≡ true }
         ensures { IsAnswered (signal_in who.now.pid condvar n (map.get self.old.processes who.now.pid))
             self.old self.new result }
     {

@@ -10,10 +10,10 @@ ghost use Rattle.kernel_model.specs.Calls.{takes_memory};
 ghost use Rattle.kernel_model.specs.State.{Table};
 
 use crate::kernel::Kernel;
-use crate::readiness::touch_answered;
 use abi_types::{Answer, Constants, Errno, OffsetCall, OpenKind, Pid};
 use channel_calls::on_end;
 use fd_calls::at_offset;
+use kernel_invariant::touch_answered;
 use kernel_parts::{on_stream, open_of, release};
 use right_rules::refused;
 use std::alloc::AllocError;

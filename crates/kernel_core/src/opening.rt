@@ -1,17 +1,18 @@
 //! The call that opens what a path leads to.
-ghost use Rattle.std.specs.Prelude.{◌≡◌, ◌+◌, ◌<◌, ◌^◌, ℕ, Some, IsSome, IfOk, IfErr, true};
+ghost use Rattle.std.specs.Prelude.{◌≡◌, ◌+◌, ◌<◌, ◌^◌, ℕ, Some, IfOk, IfErr, true};
 ghost use Rattle.std.specs.FinMap as map;
 ghost use Rattle.kernel_model.specs.Done.{IsDone};
 ghost use Rattle.kernel_core.specs.Opening.{IsOpening, open_outcome};
 ghost use Rattle.kernel_model.specs.Families.ClockCalls.{real_time};
 ghost use Rattle.kernel_model.specs.Outcome.{replies};
+ghost use Rattle.kernel_model.specs.Release.{lives};
 ghost use Rattle.kernel_model.specs.State.{Table};
 
 use crate::kernel::Kernel;
-use crate::readiness::touch_number_of;
 use abi_types::{Answer, Constants, Errno, ObjId, OpenCall, Pid, Reply};
 use entry_calls::plan_open;
 use file_calls::reply_of;
+use kernel_invariant::touch_number_of;
 use kernel_parts::{Opening, open_of, put_opening};
 use right_rules::{refused, success};
 use std::alloc::AllocError;
@@ -58,7 +59,7 @@ impl Kernel {
         pid: Pid,
         call: &OpenCall<'_>,
     ) -> Result<Answer, AllocError>
-        requires there { IsSome (map.get self.old.statuses pid) }
+        requires there { lives (map.get self.old.statuses pid) ≡ true }
         requires early { self.old.clock + constants.now.epoch < 2 ^ 64 }
         ensures { (table : Table) → map.get self.old.tables pid ≡ Some table
             → IsDone true

@@ -1,5 +1,5 @@
 //! The call that lets another program begin in a process.
-ghost use Rattle.std.specs.Prelude.{◌≡◌, ℕ, None, Some, true, IsSome, IfOk, IfErr, OnErr};
+ghost use Rattle.std.specs.Prelude.{◌≡◌, ℕ, None, Some, true, IfOk, IfErr, OnErr};
 ghost use Rattle.std.specs.FinMap as map;
 ghost use Rattle.clock_random.specs.Random.{random_bytes};
 ghost use Rattle.elf_image.specs.Checks.{fault_of};
@@ -9,7 +9,7 @@ ghost use Rattle.kernel_core.specs.Programs.{Begins, begun_updates, exec_outcome
 ghost use Rattle.kernel_model.specs.Families.ClockCalls.{can_draw};
 ghost use Rattle.kernel_model.specs.Families.ForkCalls.{exec_checked, listed};
 ghost use Rattle.kernel_model.specs.Outcome.{IsSuccess, replies};
-ghost use Rattle.kernel_model.specs.Release.{release};
+ghost use Rattle.kernel_model.specs.Release.{lives, release};
 ghost use Rattle.kernel_model.specs.Start.{canary_words};
 ghost use Rattle.kernel_model.specs.State.{ProcessState, put_all, Table};
 ghost use Rattle.kernel_model.specs.Valid.{IsNearlyValid, IsValid};
@@ -136,7 +136,7 @@ impl Kernel {
 
     // Lets a program begin in the process, by this thread, with these descriptors. What nothing holds any more ends.
     fn begin(&mut self, pid: Pid, tid: Tid, table: FdTable)
-        requires there { IsSome (map.get self.old.statuses pid) }
+        requires there { lives (map.get self.old.statuses pid) ≡ true }
         requires can { (own : ProcessState) → map.get self.old.processes pid ≡ Some own → can_draw canary_words own ≡ true }
         requires small { IsTable table }
         requires opens { (n : ℕ) → IsOpenOf self.old.opens (map.get table n) }
@@ -170,7 +170,7 @@ impl Kernel {
         fd: u32,
         fds: &[u32],
     ) -> Result<Answer, AllocError>
-        requires there { IsSome (map.get self.old.statuses who.now.pid) }
+        requires there { lives (map.get self.old.statuses who.now.pid) ≡ true }
         requires valid { IsValid self.old }
         ensures { (table : Table) → map.get self.old.tables who.now.pid ≡ Some table
             → IsDone true (exec_outcome constants.now.key self.old who.now.pid who.now.tid table fd fds.now)

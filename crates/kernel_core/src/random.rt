@@ -1,8 +1,9 @@
 //! The call for random bytes.
-ghost use Rattle.std.specs.Prelude.{IsSome, true};
+ghost use Rattle.std.specs.Prelude.{true, ◌≡◌};
 ghost use Rattle.std.specs.FinMap as map;
 ghost use Rattle.kernel_model.specs.Done.{IsDone};
 ghost use Rattle.kernel_model.specs.Families.ClockCalls.{drawn_by};
+ghost use Rattle.kernel_model.specs.Release.{lives};
 
 use crate::kernel::Kernel;
 use abi_types::{Answer, Constants, Pid};
@@ -16,7 +17,7 @@ impl Kernel {
         pid: Pid,
         length: u64,
     ) -> Result<Answer, AllocError>
-        requires there { IsSome (map.get self.old.statuses pid) }
+        requires there { lives (map.get self.old.statuses pid) ≡ true }
         ensures { IsDone true (drawn_by constants.now pid (map.get self.old.processes pid) length)
             self.old self.new result }
     {

@@ -1,17 +1,18 @@
 //! The calls on sockets.
-ghost use Rattle.std.specs.Prelude.{◌≡◌, Some, IsSome};
+ghost use Rattle.std.specs.Prelude.{◌≡◌, Some, true};
 ghost use Rattle.std.specs.FinMap as map;
 ghost use Rattle.abi_types.specs.Families.{call_of_socket};
 ghost use Rattle.kernel_model.specs.Done.{IsDone};
-ghost use Rattle.kernel_core.specs.Sockets.{socket_on};
+ghost use Rattle.kernel_invariant.specs.Sockets.{socket_on};
 ghost use Rattle.kernel_model.specs.Calls.{takes_memory};
+ghost use Rattle.kernel_model.specs.Release.{lives};
 ghost use Rattle.kernel_model.specs.State.{Table};
 ghost use Rattle.kernel_parts.specs.Waiting.{fd_of_socket};
 
 use crate::kernel::Kernel;
-use crate::readiness::{touch_answered, touch_received};
 use abi_types::{Answer, Errno, Pid, SocketCall};
 use channel_calls::on_socket;
+use kernel_invariant::{touch_answered, touch_received};
 use kernel_parts::{open_of, release, socket_fd};
 use right_rules::refused;
 use std::alloc::AllocError;
@@ -23,7 +24,7 @@ impl Kernel {
         pid: Pid,
         call: SocketCall<'_>,
     ) -> Result<Answer, AllocError>
-        requires there { IsSome (map.get self.old.statuses pid) }
+        requires there { lives (map.get self.old.statuses pid) ≡ true }
         ensures { (table : Table) → map.get self.old.tables pid ≡ Some table
             → IsDone (takes_memory (call_of_socket call.entry))
             (socket_on self.old pid table (fd_of_socket call.entry) (call_of_socket call.entry)) self.old self.new result }

@@ -1,8 +1,8 @@
 //! What a process's threads are told of beforehand: the number of the next one, and until when one waits.
 ghost use Rattle.std.specs.Prelude.{◌≡◌, ◌^◌, ◌<◌};
-ghost use Rattle.kernel_core.specs.Waiting.{waits_until};
 ghost use Rattle.kernel_model.specs.State.{thread_of};
 ghost use Rattle.kernel_model.specs.Threads.{next_number};
+ghost use Rattle.readiness_laws.specs.Watched.{until_in};
 
 use crate::kernel::Kernel;
 use abi_types::{Pid, Thread, Tid};
@@ -22,7 +22,7 @@ impl Kernel {
     /// Until when a thread waits, in nanoseconds since the run began. `None` where there is no such thread, where it doesn't wait, and where
     /// there is no such moment.
     pub fn until(&self, pid: Pid, tid: Tid) -> Option<u64>
-        ensures { result ≡ waits_until (thread_of self.now pid tid) }
+        ensures { result ≡ until_in (thread_of self.now pid tid) }
     {
         match self.thread(pid, tid)? {
             Thread::Waits { until, .. } => *until,

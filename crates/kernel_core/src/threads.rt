@@ -1,18 +1,18 @@
 //! The calls that make threads and end them.
-ghost use Rattle.std.specs.Prelude.{◌≡◌, IsSome, true};
+ghost use Rattle.std.specs.Prelude.{◌≡◌, true};
 ghost use Rattle.std.specs.FinMap as map;
 ghost use Rattle.abi_types.specs.declared.reply.Answer.TheVariants as answer;
 ghost use Rattle.kernel_model.specs.Done.{IsAnswered, IsDone};
 ghost use Rattle.kernel_core.specs.Threads.{is_last_in, IsReleasedBy};
 ghost use Rattle.kernel_model.specs.Families.ProcessCalls.{left_in, left_updates, made_in};
-ghost use Rattle.kernel_model.specs.Release.{release};
+ghost use Rattle.kernel_model.specs.Release.{lives, release};
 ghost use Rattle.kernel_model.specs.State.{put_all};
 ghost use Rattle.kernel_model.specs.Valid.{IsValid};
 
 use crate::kernel::Kernel;
-use crate::readiness::end_entry;
 use abi_types::{Answer, Errno, Pid, Reply, Status, Tid, Who, WordWrite, WordWrites};
 use guest_locks::Told;
+use kernel_invariant::end_entry;
 use kernel_parts::touch_told;
 use right_rules::{refused, success};
 use std::alloc::AllocError;
@@ -20,7 +20,7 @@ use std::alloc::AllocError;
 impl Kernel {
     // Makes a thread of the caller's process. `Err` changes nothing.
     pub(crate) fn thread_create(&mut self, who: &Who) -> Result<Answer, AllocError>
-        requires there { IsSome (map.get self.old.statuses who.now.pid) }
+        requires there { lives (map.get self.old.statuses who.now.pid) ≡ true }
         ensures { IsDone true (made_in who.now.pid who.now.tid (map.get self.old.processes who.now.pid))
             self.old self.new result }
     {
@@ -40,7 +40,7 @@ impl Kernel {
 
     // Ends a thread, and with the last one its process, which exits with 0.
     fn end_thread(&mut self, pid: Pid, tid: Tid)
-        requires { IsSome (map.get self.old.statuses pid) }
+        requires { lives (map.get self.old.statuses pid) ≡ true }
         ensures { self.new ≡ release (put_all (left_updates pid tid (map.get self.old.processes pid)) self.old) }
     {
         if self.is_last_thread(pid, tid) {
@@ -54,7 +54,7 @@ impl Kernel {
 
     // Lets go of the lock at this address, whose word is this, as far as the thread may.
     fn release_lock(&mut self, who: &Who, lock: u64, word: u32) -> Option<u32>
-        requires there { IsSome (map.get self.old.statuses who.now.pid) }
+        requires there { lives (map.get self.old.statuses who.now.pid) ≡ true }
         ensures { IsReleasedBy who.now.pid who.now.tid lock word self.old result self.new }
     {
         let mut told = Told::new();
@@ -66,7 +66,7 @@ impl Kernel {
 
     // Lets go of the lock at this address, whose word is this, and ends the caller. Where it may not let go it goes on.
     pub(crate) fn thread_exit(&mut self, who: &Who, lock: u64, word: u32) -> Reply
-        requires there { IsSome (map.get self.old.statuses who.now.pid) }
+        requires there { lives (map.get self.old.statuses who.now.pid) ≡ true }
         requires valid { IsValid self.old }
         ensures { IsAnswered (left_in who.now.pid who.now.tid lock word (map.get self.old.processes who.now.pid))
             self.old self.new (answer.Reply result) }

@@ -1,10 +1,11 @@
 //! Threads that wait in calls: how they begin to, their wakes, and the jumps of time where nothing else can happen.
-ghost use Rattle.std.specs.Prelude.{◌≡◌, ◌≢◌, ◌^◌, ◌<◌, ◌≤◌, ◌↔◌, ℕ, Some, IsSome, IfOk, OnOk, OnErr, IsTrue, IsFalse, false, true, option_copied};
+ghost use Rattle.std.specs.Prelude.{◌≡◌, ◌≢◌, ◌^◌, ◌<◌, ◌≤◌, ◌↔◌, ℕ, Some, IsSome, IfOk, OnOk, OnErr, IsTrue, IsFalse, false, true, option_copied, option_map};
 ghost use Rattle.abi_types.specs.declared.constants.Constants.{Constants};
 ghost use Rattle.abi_types.specs.declared.reply.Answer.TheVariants as answer;
 ghost use Rattle.abi_types.specs.declared.wake.WakeIn.TheVariants as wake;
-ghost use Rattle.kernel_core.specs.Readiness.{thread_by_key};
-ghost use Rattle.kernel_core.specs.Waiting.{call_ahead, kept_call, waiter, waits_until, IfDone, IfNoMemory, IfNotReady, IsUnready, NoneRuns};
+ghost use Rattle.kernel_invariant.specs.Readiness.{thread_by_key};
+ghost use Rattle.kernel_invariant.specs.Waiting.{waiter, IsUnready, NoneRuns};
+ghost use Rattle.kernel_core.specs.Waiting.{call_ahead, kept_call, IfDone, IfNoMemory, IfNotReady};
 ghost use Rattle.kernel_model.specs.Calls.{meaning_of};
 ghost use Rattle.kernel_model.specs.Deadlines.{idle_state, least_deadline};
 ghost use Rattle.kernel_model.specs.Outcome.{is_parked};
@@ -12,20 +13,24 @@ ghost use Rattle.kernel_model.specs.State.{Part, Agree, thread_of};
 ghost use Rattle.kernel_model.specs.Step.{step_answer, tick, IsStep, IsUntouched};
 ghost use Rattle.kernel_model.specs.Valid.{IsValid};
 ghost use Rattle.kernel_model.specs.Waits.{may_wait, resumed, waiting, with_thread, HasDeadlines, WaitsIn};
-ghost use Rattle.kernel_model.specs.Wakes.{is_ready, woken, IsStalled, IsWake, LacksNoMemory, MayJump, NoneReady};
+ghost use Rattle.kernel_model.specs.Wakes.{is_ready, may_queue, woken, IsStalled, IsWake, LacksNoMemory, MayJump, NoneReady};
 ghost use Rattle.kernel_parts.specs.Waiting.{kept_in};
+ghost use Rattle.readiness_laws.specs.NextReady.{thread_at, IsNextReady};
+ghost use Rattle.readiness_laws.specs.Watched.{until_in};
 
 use crate::kernel::{Kernel, STEP_TIME};
-use crate::locks::may_queue;
-use crate::readiness::{rest_entry, run_entry, touch_time};
 use abi_types::{
-    Answer, Call, Constants, Errno, Pid, Reply, Stage, Thread, Tid, TryClone, WakeIn, Who,
+    Answer, Call, Constants, Errno, Pid, Reply, Stage, Thread, Tid, TryClone, WakeIn, What, Who,
 };
 use guest_locks::set_word;
+use kernel_invariant::{Looked, gather, rest_entry, run_entry, touch_time};
 use kernel_parts::{goes_on, thread_key, thread_of_key};
 use poll_set::{Surroundings, lock_subscription, sooner};
 use right_rules::refused;
 use std::alloc::AllocError;
+use std::marker::Brand;
+use std::sync::ledger::{Blank, Ledger};
+use wait_set::Steps;
 
 /// What came of a wake.
 #[derive(Drop)]
@@ -36,6 +41,20 @@ pub enum Woken {
     NoMemory,
     /// The call that the thread waited in was done, or the thread waits on in it for its lock.
     Done { call: Call, answer: Answer },
+}
+
+// Whether a thread may wait on after a wake that had come so far: one that was signalled at its condition variable, or whose time had come
+// there, may wait for the lock.
+fn may_queue(call: &Call, stage: Stage) -> bool
+    ensures { result ≡ may_queue call.now (Some stage) }
+{
+    if !matches!(stage, Stage::Begun | Stage::Signalled) {
+        return false;
+    }
+    match lock_subscription(call) {
+        Some(first) => matches!(first.what, What::Condvar { .. }),
+        None => false,
+    }
 }
 
 impl Kernel {
@@ -291,13 +310,10 @@ impl Kernel {
 
     // Until when the thread with this number waits, if there is such a moment.
     fn until_of(&self, key: u64) -> Option<u64>
-        ensures { result ≡ waits_until (thread_by_key self.now.processes key) }
+        ensures { result ≡ until_in (thread_by_key self.now.processes key) }
     {
         let (pid, tid) = thread_of_key(key);
-        match self.thread(pid, tid)? {
-            Thread::Waits { until, .. } => *until,
-            Thread::Runnable => None,
-        }
+        self.until(pid, tid)
     }
 
     // The earliest moment until which a thread waits, if there is one. Looks at each thread.
@@ -322,5 +338,112 @@ impl Kernel {
             None => self.waits.next_moment(None),
             Some(_) => self.least_until(),
         }
+    }
+
+    // The ready thread with the least number above this one, or of all.
+    fn settle_next<L: Ledger>(
+        &mut self,
+        constants: &Constants,
+        after: Option<u64>,
+        steps: &mut Steps<L>,
+    ) -> Option<u64>
+        requires deadlines { HasDeadlines constants.now self.old }
+        ensures same { self.new ≡ self.old }
+        ensures next { IsNextReady constants.now self.old (option_map thread_at after) (option_map thread_at result) }
+    {
+        let looked = Looked {
+            around: Surroundings {
+                constants,
+                objects: &self.objects,
+                channels: &self.channels,
+                statuses: &self.statuses,
+                now: self.clock,
+            },
+            tables: &self.tables,
+            processes: &self.processes,
+        };
+        let next = self.waits.next_settled(&looked, after, steps);
+        gather(
+            &mut self.waits,
+            self.alloc,
+            &self.objects,
+            &self.tables,
+            &self.processes,
+        );
+        next
+    }
+
+    /// The ready thread with the least numbers behind this one, or of all, in a run with these constants. Only those are tested that something has
+    /// happened to since they were last, and none behind it: `steps` counts them.
+    pub fn next_tested<L: Ledger>(
+        &mut self,
+        constants: &Constants,
+        after: Option<(Pid, Tid)>,
+        steps: &mut Steps<L>,
+    ) -> Option<(Pid, Tid)>
+        requires deadlines { HasDeadlines constants.now self.old }
+        ensures same { self.new ≡ self.old }
+        ensures next { IsNextReady constants.now self.old after result }
+    {
+        let after = match after {
+            Some((pid, tid)) => Some(thread_key(pid, tid)),
+            None => None,
+        };
+        let key = self.settle_next(constants, after, steps)?;
+        Some(thread_of_key(key))
+    }
+
+    // The same, where nobody counts.
+    fn next_by<L: Ledger>(
+        &mut self,
+        constants: &Constants,
+        after: Option<(Pid, Tid)>,
+        blank: Blank,
+    ) -> Option<(Pid, Tid)>
+        requires name { blank.name ≡ L.name }
+        requires parts { blank.parts ≡ L.parts }
+        requires some { 0 < blank.parts }
+        requires deadlines { HasDeadlines constants.now self.old }
+        ensures same { self.new ≡ self.old }
+        ensures next { IsNextReady constants.now self.old after result }
+    {
+        self.next_tested(constants, after, &mut Steps::<L>::new(blank))
+    }
+
+    /// The ready thread with the least numbers behind this one, or of all, in a run with these constants.
+    pub fn next_ready(
+        &mut self,
+        constants: &Constants,
+        after: Option<(Pid, Tid)>,
+    ) -> Option<(Pid, Tid)>
+        requires deadlines { HasDeadlines constants.now self.old }
+        ensures same { self.new ≡ self.old }
+        ensures next { IsNextReady constants.now self.old after result }
+    {
+        self.next_by::<Brand>(constants, after, Blank::new(1))
+    }
+
+    // Whether a thread waits and goes on now: by its mark, and where it is left to be tested by a look at it.
+    pub(crate) fn goes_on_now(&self, constants: &Constants, pid: Pid, tid: Tid) -> bool
+        requires deadlines { HasDeadlines constants.now self.now }
+        ensures { result ≡ is_ready constants.now self.now pid tid }
+    {
+        match self.waits.marked(thread_key(pid, tid)) {
+            Some(ready) => ready,
+            None => self.is_ready(constants, pid, tid),
+        }
+    }
+
+    /// Whether something has happened to a thread that waits since it was last tested, or a thread is no more of which nobody was told. Who is ready
+    /// is told by `next_ready`, and who is no more by `take_gone`.
+    pub fn has_news(&self) -> bool {
+        self.waits.has_news()
+    }
+
+    /// A thread that is no more, since its process has ended, or another program began in it, and of which nobody was told.
+    pub fn take_gone(&mut self) -> Option<(Pid, Tid)>
+        ensures { self.new ≡ self.old }
+    {
+        self.waits.take_gone().map(|key| thread_of_key(key))
     }
 }

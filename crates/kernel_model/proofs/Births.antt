@@ -1,9 +1,8 @@
 -- The child that a call makes of its process.
 --     may_is, next_is      what it takes that the process may have one more
---     child_apart      the child is another process
 --     child_is_absent      and it isn't there yet
 --     fork_holds      what holds of each outcome of proc_fork
-use Rattle.std.proofs.Common.{◌≡◌, ◌≢◌, ℕ, zero, suc, ◌+◌, ◌<◌, ◌&&◌, Bool, true, false, List, [], ◌∷◌, Option, Some, None, is_some, inl, inr, refl, ap, subst, arith}
+use Rattle.std.proofs.Common.{◌≡◌, ℕ, ◌+◌, ◌<◌, ◌&&◌, Bool, true, false, List, [], ◌∷◌, Option, Some, None, is_some, inl, inr, refl, ap, subst, arith}
 use Rattle.std.proofs.lemmas.Bool.{ltb-true}
 use Rattle.std.specs.Prelude.{nat_le, nat_lt, if◌then◌else◌}
 use Rattle.std.specs.FinMap.{get}
@@ -39,12 +38,6 @@ may_is own h =
 
 pub next_is : (p : ℕ) (own : ProcessState) → may_bear own ≡ true → next_child p (Some own) ≡ Some (child_number p own)
 next_is p own h = ap (λ b. if b then Some (child_of p own.depth (own.counts.forks + 1)) else None) h
-
-pub child_apart : (depth p i : ℕ) → MayHaveChild depth i → child_of p depth i ≢ p
-child_apart zero p i may is = absurd (omega arith)
-child_apart (suc zero) p i may is = absurd (omega arith)
-child_apart (suc (suc zero)) p i may is = absurd (omega arith)
-child_apart (suc (suc (suc depth))) p i may is = absurd (omega arith)
 
 -- ---- it isn't there
 

@@ -245,7 +245,6 @@ module _ (S : State) (c : ℕ) (old new : Channel) (there : get S.chans c ≡ So
     sole = v.sole;
     tables = v.tables;
     owns = v.owns;
-    ended = v.ended;
     numbered = v.numbered;
     made = v.made;
     made_nodes = v.made_nodes;

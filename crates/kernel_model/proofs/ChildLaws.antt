@@ -1,16 +1,21 @@
 -- What the numbers of processes say.
---     process_of_depth      the number of a process has bytes for its depth, and zeros below
---     told_by      the number of a child says whose it is, and which
---     next_child_is_unmade      a child that was not counted was not made
-use Rattle.std.proofs.Common.{◌≡◌, ◌≢◌, inl, inr, ℕ, zero, suc, ◌+◌, ◌*◌, ◌^◌, ◌<◌, ◌≤◌, false, Option, Some, None, is_some, refl, sym, ap, subst, ◌∙◌, arith}
+--     born_of_depth      the number of a process has bytes for its depth, and zeros below
+--     told_by, born_told_by      the number of a child says whose it is, and which
+--     each_has_one_depth      each process that was made has one depth
+--     not_first, child_apart      a child is neither process 0 nor its parent
+--     child_is_unmade      a child that was not counted was not made
+--     process_is_small      the number of a process that lives is none that stands for the objects of the launch
+use Rattle.std.proofs.Common.{◌≡◌, ◌≢◌, inl, inr, ℕ, zero, suc, ◌+◌, ◌*◌, ◌^◌, ◌<◌, ◌≤◌, Option, Some, None, is_some, refl, sym, ap, subst, ◌∙◌, arith}
 use Rattle.std.proofs.lemmas.Bool.{cases_order}
-use Rattle.std.specs.FinMap.{get}
-use Rattle.kernel_model.specs.ChildLaws.{IsUnmade}
-use Rattle.kernel_model.specs.Families.Children.{child_of, IsChild, IsBorn, MayHaveChild}
+use Rattle.std.specs.Ordering.{nat_cmp}
+use Rattle.std.specs.FinMap.{FinMap, get}
+use Rattle.abi_types.specs.declared.status.Status.{Status}
+use Rattle.kernel_model.specs.ChildLaws.{ChildNumbersAreUnique, DeepestHasNoChild, EachHasOneDepth, IsUnmade, ProcessNumbersAreSmall, ProcessZeroHasDepthZero}
+use Rattle.kernel_model.specs.Families.Children.{child_of, IsBorn, IsChildOf, MayHaveChild}
+use Rattle.kernel_model.specs.Release.{lives}
 use Rattle.kernel_model.specs.State.{State, ProcessState, counts_in}
-use Rattle.kernel_model.specs.Valid.{IsNearlyValid, IsValid}
+use Rattle.kernel_model.specs.Valid.{has_ended, IsNearlyValid, IsUncounted, IsValid}
 use Rattle.kernel_model.proofs.Tests.{none_of}
-use Rattle.kernel_model.proofs.Valids.{same_value}
 
 -- ---- the numbers of each depth
 
@@ -48,30 +53,18 @@ small_number (suc (suc zero)) p of = omega arith
 small_number (suc (suc (suc zero))) p of = omega arith
 small_number (suc (suc (suc (suc depth)))) p of = omega arith
 
-module _ (S : State) (v : IsNearlyValid S) where
-  of_depth : (depth p : ℕ) (own : ProcessState) → get S.processes p ≡ Some own → own.depth ≡ depth → IsOfDepth depth p × (depth ≤ 4)
-  of_depth zero p own made is =
-      elim (v.born p own made) [
-        | inl first ↦ (let none : p ≡ 0 = first.0 in ((0, omega arith, omega arith), omega arith))
-        | inr child ↦ (let deeper : own.depth ≡ child.own.depth + 1 = child.deeper in absurd (omega (arith, deeper, is)))
-      ]
-  of_depth (suc depth) p own made is =
-      elim (v.born p own made) [
-        | inl first ↦ (let none : own.depth ≡ 0 = first.1 in absurd (omega (arith, none, is)))
-        | inr child ↦ (
-            let deeper : own.depth ≡ child.own.depth + 1 = child.deeper in
-            let above : child.own.depth ≡ depth = omega (arith, deeper, is) in
-            let parent = of_depth depth child.parent child.own child.made above in
-            let few : child.own.depth < 4 = child.may.0 in
-            let number : p ≡ child_of child.parent depth child.i = child.number ∙ ap (λ d. child_of child.parent d child.i) above in (
-              subst (IsOfDepth (suc depth)) (sym number)
-                  (child_of_depth depth child.parent child.i (subst (λ d. MayHaveChild d child.i) above child.may) parent.0),
-              omega (arith, few, above),
-            ))
-      ]
+pub born_of_depth : (statuses : FinMap nat_cmp Status) (depth p : ℕ) → IsBorn statuses depth p → IsOfDepth depth p × (depth ≤ 4)
+born_of_depth statuses zero p none = ((0, omega (arith, none), omega (arith, none)), omega arith)
+born_of_depth statuses (suc depth) p child =
+    let parent = born_of_depth statuses depth child.0 child.2 in
+    let place : IsChildOf child.0 depth p = child.3 in
+    let few : depth < 4 = place.1.0 in (
+      subst (IsOfDepth (suc depth)) (sym place.2) (child_of_depth depth child.0 place.0 place.1 parent.0),
+      omega (arith, few),
+    )
 
-  pub process_of_depth : (p : ℕ) (own : ProcessState) → get S.processes p ≡ Some own → IsOfDepth own.depth p × (own.depth ≤ 4)
-  process_of_depth p own made = of_depth own.depth p own made refl
+process_of_depth : (S : State) → IsNearlyValid S → (p : ℕ) (own : ProcessState) → get S.processes p ≡ Some own → IsOfDepth own.depth p × (own.depth ≤ 4)
+process_of_depth S v p own there = born_of_depth S.statuses own.depth p (v.born.deep p own there)
 
 -- ---- the number of a child
 
@@ -99,7 +92,7 @@ told_apart (suc (suc (suc d))) (suc (suc (suc zero))) p q i j less a b may same 
 told_apart d (suc (suc (suc (suc e)))) p q i j less a b may same = absurd (omega arith)
 
 -- the number of a child says whose it is, and which
-told_by : (d e p q i j : ℕ) → IsOfDepth d p → IsOfDepth e q → MayHaveChild d i → MayHaveChild e j → child_of p d i ≡ child_of q e j
+pub told_by : (d e p q i j : ℕ) → IsOfDepth d p → IsOfDepth e q → MayHaveChild d i → MayHaveChild e j → child_of p d i ≡ child_of q e j
     → (p ≡ q) × (d ≡ e) × (i ≡ j)
 told_by d e p q i j a b may other same =
     elim (cases_order d e) [
@@ -121,48 +114,69 @@ not_first (suc zero) p i may is = absurd (omega arith)
 not_first (suc (suc zero)) p i may is = absurd (omega arith)
 not_first (suc (suc (suc depth))) p i may is = absurd (omega arith)
 
-pub child_numbers_are_unique : (S : State) (p q i j : ℕ) (own other : ProcessState) → IsValid S → get S.processes p ≡ Some own
-    → get S.processes q ≡ Some other → MayHaveChild own.depth i → MayHaveChild other.depth j
-    → child_of p own.depth i ≡ child_of q other.depth j → (p ≡ q) × (own.depth ≡ other.depth) × (i ≡ j)
-child_numbers_are_unique S p q i j own other v made there may may_other same =
-    told_by own.depth other.depth p q i j (process_of_depth S v.nearly p own made).0 (process_of_depth S v.nearly q other there).0 may may_other same
+-- nor that of its parent
+pub child_apart : (depth p i : ℕ) → MayHaveChild depth i → child_of p depth i ≢ p
+child_apart zero p i may is = absurd (omega arith)
+child_apart (suc zero) p i may is = absurd (omega arith)
+child_apart (suc (suc zero)) p i may is = absurd (omega arith)
+child_apart (suc (suc (suc depth))) p i may is = absurd (omega arith)
+
+pub born_told_by : (statuses : FinMap nat_cmp Status) (d e p q i j : ℕ) → IsBorn statuses d p → IsBorn statuses e q → MayHaveChild d i → MayHaveChild e j
+    → child_of p d i ≡ child_of q e j → (p ≡ q) × (d ≡ e) × (i ≡ j)
+born_told_by statuses d e p q i j a b may other same =
+    told_by d e p q i j (born_of_depth statuses d p a).0 (born_of_depth statuses e q b).0 may other same
+
+pub child_numbers_are_unique : ChildNumbersAreUnique
+child_numbers_are_unique S p q d e i j a b may other same = born_told_by S.statuses d e p q i j a b may other same
+
+-- a process has one depth
+one_depth : (statuses : FinMap nat_cmp Status) (d e p : ℕ) → IsBorn statuses d p → IsBorn statuses e p → d ≡ e
+one_depth statuses zero zero p a b = refl
+one_depth statuses zero (suc e) p a b = let place : IsChildOf b.0 e p = b.3 in absurd (not_first e b.0 place.0 place.1 (sym place.2 ∙ a))
+one_depth statuses (suc d) zero p a b = let place : IsChildOf a.0 d p = a.3 in absurd (not_first d a.0 place.0 place.1 (sym place.2 ∙ b))
+one_depth statuses (suc d) (suc e) p a b =
+    let place : IsChildOf a.0 d p = a.3 in
+    let other : IsChildOf b.0 e p = b.3 in
+    let told = born_told_by statuses d e a.0 b.0 place.0 other.0 a.2 b.2 place.1 other.1 (sym place.2 ∙ other.2) in
+    ap (λ k. suc k) told.1
+
+pub each_has_one_depth : EachHasOneDepth
+each_has_one_depth S p v some =
+    let born = v.nearly.born.made p some in (
+      born.0,
+      born.1,
+      λ d other. one_depth S.statuses d born.0 p other born.1,
+      λ own there. one_depth S.statuses own.depth born.0 p (v.nearly.born.deep p own there) born.1,
+    )
 
 -- ---- a child that was not counted
 
 module _ (S : State) (v : IsNearlyValid S) (p i : ℕ) (own : ProcessState) (made : get S.processes p ≡ Some own) (may : MayHaveChild own.depth i)
     (beyond : own.counts.forks < i) where
-  not_born : (depth : ℕ) → IsBorn S.processes (child_of p own.depth i) depth → ⊥
-  not_born depth (inl first) = not_first own.depth p i may first.0
-  not_born depth (inr child) =
-      let told = told_by own.depth child.own.depth p child.parent i child.i (process_of_depth S v p own made).0
-      (process_of_depth S v child.parent child.own child.made).0 may child.may child.number in
-      let is : own ≡ child.own = same_value own child.own (get S.processes p) made (ap (get S.processes) told.0 ∙ child.made) in
-      let forks : own.counts.forks ≡ child.own.counts.forks = ap (λ (x : ProcessState). x.counts.forks) is in
-      let counted : child.i ≤ child.own.counts.forks = child.counted in
-      let place : i ≡ child.i = told.2 in
-      omega (arith, forks, counted, place, beyond)
-
-  no_process : (o : Option ProcessState) → get S.processes (child_of p own.depth i) ≡ o → o ≡ None
-  no_process None there = refl
-  no_process (Some other) there = absurd (not_born other.depth (v.born (child_of p own.depth i) other there))
+  not_made : (o : Option Status) → get S.statuses (child_of p own.depth i) ≡ o → o ≡ None
+  not_made None there = refl
+  not_made (Some status) there =
+      let counted : i ≤ own.counts.forks = v.born.counted p i own made may (ap is_some there) in absurd (omega (arith, counted, beyond))
 
   child_is_small : child_of p own.depth i < 0xffffffff
   child_is_small = small_number (suc own.depth) (child_of p own.depth i) (child_of_depth own.depth p i may (process_of_depth S v p own made).0)
 
   pub child_is_unmade : IsUnmade S (child_of p own.depth i)
   child_is_unmade =
-      let none : get S.processes (child_of p own.depth i) ≡ None = no_process (get S.processes (child_of p own.depth i)) refl in
-      let absent : is_some (get S.statuses (child_of p own.depth i)) ≡ false = sym (v.owns (child_of p own.depth i)) ∙ ap is_some none in
+      let none : get S.statuses (child_of p own.depth i) ≡ None = not_made (get S.statuses (child_of p own.depth i)) refl in
+      let absent : get S.processes (child_of p own.depth i) ≡ None =
+      none_of (get S.processes (child_of p own.depth i)) (v.owns (child_of p own.depth i) ∙ ap lives none) in
       record {
-        process = none;
-        table = none_of (get S.tables (child_of p own.depth i)) (v.tables (child_of p own.depth i) ∙ absent);
-        status = none_of (get S.statuses (child_of p own.depth i)) absent;
+        process = absent;
+        table = none_of (get S.tables (child_of p own.depth i)) (v.tables (child_of p own.depth i) ∙ ap lives none);
+        status = none;
         small = child_is_small;
-        opens = λ k some fits. v.made (child_of p own.depth i) k child_is_small (uncounted none k some) fits;
-        nodes = λ k some fits. v.made_nodes (child_of p own.depth i) k child_is_small (uncounted none k some) fits;
+        opens = λ k some fits. v.made (child_of p own.depth i) k child_is_small (uncounted none absent k some) fits;
+        nodes = λ k some fits. v.made_nodes (child_of p own.depth i) k child_is_small (uncounted none absent k some) fits;
       } where
-        uncounted : get S.processes (child_of p own.depth i) ≡ None → (k : ℕ) → 1 ≤ k → (counts_in (get S.processes (child_of p own.depth i))).objects < k
-        uncounted none k some = subst (λ o. (counts_in o).objects < k) (sym none) (omega (arith, some))
+        uncounted : get S.statuses (child_of p own.depth i) ≡ None → get S.processes (child_of p own.depth i) ≡ None → (k : ℕ) → 1 ≤ k
+            → IsUncounted S (child_of p own.depth i) k
+        uncounted none absent k some = (ap has_ended none, subst (λ o. (counts_in o).objects < k) (sym absent) (omega (arith, some)))
 
 pub next_child_is_unmade : (S : State) (p i : ℕ) (own : ProcessState) → IsValid S → get S.processes p ≡ Some own → MayHaveChild own.depth i
     → own.counts.forks < i → IsUnmade S (child_of p own.depth i)
@@ -170,21 +184,18 @@ next_child_is_unmade S p i own v made may beyond = child_is_unmade S v.nearly p 
 
 -- ---- all processes
 
-pub process_numbers_are_small : (S : State) (p : ℕ) (own : ProcessState) → IsValid S → get S.processes p ≡ Some own → (p < 0xffffffff) × (own.depth ≤ 4)
-process_numbers_are_small S p own v made =
-    let of = process_of_depth S v.nearly p own made in (small_number own.depth p of.0, of.1)
+pub process_numbers_are_small : ProcessNumbersAreSmall
+process_numbers_are_small S p depth born = let of = born_of_depth S.statuses depth p born in (small_number depth p of.0, of.1)
 
-pub process_0_has_depth_0 : (S : State) (own : ProcessState) → IsValid S → get S.processes 0 ≡ Some own → own.depth ≡ 0
-process_0_has_depth_0 S own v made =
-    elim (v.nearly.born 0 own made) [
-      | inl first ↦ first.1
-      | inr child ↦ absurd (not_first child.own.depth child.parent child.i child.may (sym child.number))
-    ]
+-- and so is that of one that lives
+pub process_is_small : (S : State) (p : ℕ) (own : ProcessState) → IsNearlyValid S → get S.processes p ≡ Some own → p < 0xffffffff
+process_is_small S p own v there = small_number own.depth p (process_of_depth S v p own there).0
 
-pub deepest_has_no_child : (S : State) (p q depth : ℕ) (own : ProcessState) → get S.processes p ≡ Some own → own.depth ≡ 4
-    → (child : IsChild S.processes q depth) → child.parent ≢ p
-deepest_has_no_child S p q depth own made deepest child is =
-    let same : own ≡ child.own = same_value own child.own (get S.processes p) made (ap (get S.processes) (sym is) ∙ child.made) in
-    let alike : own.depth ≡ child.own.depth = ap (λ (x : ProcessState). x.depth) same in
-    let less : child.own.depth < 4 = child.may.0 in
-    omega (arith, alike, less, deepest)
+pub process_0_has_depth_0 : ProcessZeroHasDepthZero
+process_0_has_depth_0 S depth born = one_depth S.statuses depth 0 0 born refl
+
+pub deepest_has_no_child : DeepestHasNoChild
+deepest_has_no_child S p q depth deepest born child =
+    let is : depth ≡ 4 = one_depth S.statuses depth 4 p born deepest in
+    let few : depth < 4 = child.1.0 in
+    omega (arith, is, few)

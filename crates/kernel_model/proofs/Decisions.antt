@@ -11,7 +11,7 @@ use Rattle.abi_types.specs.declared.who.Who.{Who}
 use Rattle.kernel_model.specs.Outcome.{Outcome}
 use Rattle.kernel_model.specs.Laws.{HasSameSight, EndsSame, EndsAlike}
 use Rattle.kernel_model.specs.Channels.{channel_left}
-use Rattle.kernel_model.specs.Release.{ends, is_node_kept, kept_channel, process_left, release, status_left, table_left, without_ended}
+use Rattle.kernel_model.specs.Release.{ends, is_node_kept, kept_channel, own_left, release, status_left, without_ended}
 use Rattle.kernel_model.specs.State.{State, Part, at_clock, at_proc, at_status, at_open, at_node, at_names, at_term, at_chan, same_part, has_part, Agree, AgreeOn, put_all}
 use Rattle.kernel_model.specs.Step.{tick, sight, outcome_by, outcome, unreleased, step_answer, step_state}
 use Rattle.kernel_model.specs.View.{only, restrict}
@@ -92,8 +92,8 @@ same_test false false e = refl
 
 pub release_alike : (S T : State) (q : Part) → Agree S T q → EndsSame S T q → Agree (release S) (release T) q
 release_alike S T (at_proc p) h alike = (
-  table_after S (ends S) p ∙ (λ i. option_map (table_left (alike i)) (h.0 i)) ∙ sym (table_after T (ends T) p),
-  process_after S (ends S) p ∙ (λ i. option_map (process_left (alike i)) (h.1 i)) ∙ sym (process_after T (ends T) p),
+  table_after S (ends S) p ∙ (λ i. own_left (alike i) (h.0 i)) ∙ sym (table_after T (ends T) p),
+  process_after S (ends S) p ∙ (λ i. own_left (alike i) (h.1 i)) ∙ sym (process_after T (ends T) p),
 )
 release_alike S T (at_status p) h alike =
     status_after S (ends S) p ∙ (λ i. option_map (status_left (alike i)) (h i)) ∙ sym (status_after T (ends T) p)

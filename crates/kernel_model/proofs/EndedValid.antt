@@ -1,116 +1,105 @@
 -- The end of a process keeps a state nearly valid.
-use Rattle.std.proofs.Common.{◌≡◌, ◌≢◌, inl, inr, ℕ, ◌<◌, ◌≤◌, Some, IsSome, refl, sym, ap, subst, ◌∙◌}
+--     gone_or_same      a process has nothing of its own any more, and the others have what they had
+--     ended_before      what a process has after the end of one it had before
+--     dead_status      an ended process doesn't live
+--     end_nearly_valid      the end of a process keeps a state nearly valid
+use Rattle.std.proofs.Common.{◌≡◌, ◌≢◌, ◌⊎◌, inl, inr, ℕ, ◌<◌, ◌≤◌, true, false, None, Some, IsSome, is_some, refl, sym, ap, subst, ◌∙◌}
 use Rattle.std.proofs.lemmas.Bool.Decides.{eqb_tells}
 use Rattle.std.specs.Ordering.{nat_cmp}
-use Rattle.std.specs.FinMap.{FinMap, get, get-empty, insert, empty}
-use Rattle.std.specs.Option.{option_map}
-use Rattle.abi_types.specs.declared.counts.Counts.{Counts}
-use Rattle.abi_types.specs.declared.descriptor.Descriptor.{Descriptor}
+use Rattle.std.specs.FinMap.{FinMap, get, insert, remove}
 use Rattle.abi_types.specs.declared.status.Status.{Status}
-use Rattle.abi_types.specs.declared.status.Status.TheVariants.{Live}
-use Rattle.maps.specs.Maps.{get-insert-same, get-insert-other}
-use Rattle.kernel_model.specs.Families.ProcessCalls.{ended_process, end_updates}
-use Rattle.kernel_model.specs.Release.{ends}
-use Rattle.kernel_model.specs.State.{State, Table, ProcessState, put_all, threads_of, thread_in, thread_of, counts_in}
-use Rattle.kernel_model.specs.Valid.{IsNearlyValid}
+use Rattle.abi_types.specs.declared.status.Status.TheVariants.{Live, Exit, Killed}
+use Rattle.maps.specs.Maps.{get-insert-same, get-insert-other, get-remove-same, get-remove-other}
+use Rattle.kernel_model.specs.Families.ProcessCalls.{end_updates}
+use Rattle.kernel_model.specs.Release.{lives}
+use Rattle.kernel_model.specs.State.{State, put_all, thread_in, thread_of, counts_in}
+use Rattle.kernel_model.specs.Valid.{has_ended, IsNearlyValid, IsUncounted}
 use Rattle.kernel_model.specs.Waits.{MayWait}
-use Rattle.kernel_model.proofs.Children.{all_born, end_keeps}
-use Rattle.kernel_model.proofs.Tests.{none_is_no}
-use Rattle.kernel_model.proofs.Valids.{behind_same, some_inserted, same_keys_inserted, same_value, no_thread, none_waits}
+use Rattle.kernel_model.proofs.Children.{all_born, ended_keeps}
+use Rattle.kernel_model.proofs.Tests.{none_is_no, not_true}
+use Rattle.kernel_model.proofs.Valids.{behind_same, some_inserted, threads_in}
 
--- a descriptor of a process after one is emptied was there before
-emptied_before : (tables : FinMap nat_cmp Table) (p q n : ℕ) (table : Table) (d : Descriptor)
-    → get (insert tables p empty) q ≡ Some table → get table n ≡ Some d → get tables q ≡ Some table
-emptied_before tables p q n table d there here =
+pub gone_or_same : {X : Type 0} (m : FinMap nat_cmp X) (p q : ℕ) → (get (remove m p) q ≡ None) ⊎ ((q ≢ p) × (get (remove m p) q ≡ get m q))
+gone_or_same m p q =
     elim (eqb_tells q p) [
-      | inl is ↦ (let bare : empty ≡ table = same_value _ _ _ (get-insert-same tables p empty) (subst (λ j. get (insert tables p empty) j ≡ Some table) is.1 there) in
-          absurd (none_is_no d (sym (get-empty nat_cmp n) ∙ ap (λ (m : Table). get m n) bare ∙ here)))
-      | inr other ↦ sym (get-insert-other tables p empty q other.1) ∙ there
+      | inl is ↦ inl (ap (get (remove m p)) is.1 ∙ get-remove-same m p)
+      | inr other ↦ inr (other.1, get-remove-other m p q other.1)
     ]
 
-emptied_stays : {X : Type 0} (m : FinMap nat_cmp (FinMap nat_cmp X)) (p q : ℕ) → get m q ≡ Some empty → get (insert m p empty) q ≡ Some empty
-emptied_stays m p q e =
+pub ended_before : {X : Type 0} (m : FinMap nat_cmp X) (p q : ℕ) (x : X) → get (remove m p) q ≡ Some x → get m q ≡ Some x
+ended_before m p q x there =
+    elim (gone_or_same m p q) [ inl gone ↦ absurd (none_is_no x (sym gone ∙ there)) | inr same ↦ sym same.1 ∙ there ]
+
+pub dead_status : (status : Status) → status ≢ Live → (lives (Some status) ≡ false) × (has_ended (Some status) ≡ true)
+dead_status Live dead = absurd (dead refl)
+dead_status (Exit code) dead = (refl, refl)
+dead_status (Killed signal) dead = (refl, refl)
+
+-- just the processes that live have something of their own
+ended_alive : {X : Type 0} (m : FinMap nat_cmp X) (statuses : FinMap nat_cmp Status) (p : ℕ) (status : Status) → status ≢ Live
+    → ((q : ℕ) → is_some (get m q) ≡ lives (get statuses q)) → (q : ℕ) → is_some (get (remove m p) q) ≡ lives (get (insert statuses p status) q)
+ended_alive m statuses p status dead same q =
     elim (eqb_tells q p) [
-      | inl is ↦ subst (λ j. get (insert m p empty) j ≡ Some empty) (sym is.1) (get-insert-same m p empty)
-      | inr other ↦ get-insert-other m p empty q other.1 ∙ e
+      | inl is ↦ subst (λ j. is_some (get (remove m p) j) ≡ lives (get (insert statuses p status) j)) (sym is.1)
+          (ap is_some (get-remove-same m p) ∙ sym (ap lives (get-insert-same statuses p status) ∙ (dead_status status dead).0))
+      | inr other ↦ ap is_some (get-remove-other m p q other.1) ∙ same q ∙ sym (ap lives (get-insert-other statuses p status q other.1))
     ]
 
--- what an ended process has left, where one more has ended
-ended_after : {X : Type 0} (m : FinMap nat_cmp (FinMap nat_cmp X)) (statuses : FinMap nat_cmp Status) (p : ℕ) (status : Status)
-    → ((q : ℕ) (s : Status) → get statuses q ≡ Some s → s ≢ Live → get m q ≡ Some empty)
-    → (q : ℕ) (s : Status) → get (insert statuses p status) q ≡ Some s → s ≢ Live → get (insert m p empty) q ≡ Some empty
-ended_after m statuses p status before q s e ends =
+-- no status is new but that of a process that was made
+status_before : (statuses : FinMap nat_cmp Status) (p : ℕ) (status : Status) → IsSome (get statuses p) → (q : ℕ)
+    → IsSome (get (insert statuses p status) q) → IsSome (get statuses q)
+status_before statuses p status made q there =
     elim (eqb_tells q p) [
-      | inl is ↦ subst (λ j. get (insert m p empty) j ≡ Some empty) (sym is.1) (get-insert-same m p empty)
-      | inr other ↦ emptied_stays m p q (before q s (sym (get-insert-other statuses p status q other.1) ∙ e) ends)
+      | inl is ↦ ap (λ k. is_some (get statuses k)) is.1 ∙ made
+      | inr other ↦ sym (ap is_some (get-insert-other statuses p status q other.1)) ∙ there
     ]
 
--- what an ended process and all others have of their own, once one more has ended
-process_at : (m : FinMap nat_cmp ProcessState) (p : ℕ) → get (insert m p (ended_process (get m p))) p ≡ Some (ended_process (get m p))
-process_at m p = get-insert-same m p (ended_process (get m p))
+module _ (S : State) (p : ℕ) (status : Status) (dead : status ≢ Live) where
+  abbrev after : State
+  after = put_all (end_updates p status) S
 
-pub threads_at : (S : State) (p : ℕ) (status : Status) → threads_of (put_all (end_updates p (get S.processes p) status) S) p ≡ Some empty
-threads_at S p status = ap (option_map (λ (own : ProcessState). own.threads)) (process_at S.processes p)
+  -- a process that has not ended has what it had
+  uncounted_before : (q k : ℕ) → IsUncounted after q k → IsUncounted S q k
+  uncounted_before q k uncounted =
+      elim (eqb_tells q p) [
+        | inl is ↦ absurd (not_true (sym (subst (λ j. has_ended (get (insert S.statuses p status) j) ≡ false) is.1 uncounted.0)
+            ∙ ap has_ended (get-insert-same S.statuses p status) ∙ (dead_status status dead).1))
+        | inr other ↦ (
+          sym (ap has_ended (get-insert-other S.statuses p status q other.1)) ∙ uncounted.0,
+          subst (λ own. (counts_in own).objects < k) (get-remove-other S.processes p q other.1) uncounted.1,
+        )
+      ]
 
-process_apart : (S : State) (p : ℕ) (status : Status) (q : ℕ) → q ≢ p → get (put_all (end_updates p (get S.processes p) status) S).processes q ≡ get S.processes q
-process_apart S p status q n = get-insert-other S.processes p (ended_process (get S.processes p)) q n
+  ended_numbered : IsNearlyValid S → (q t : ℕ) → IsSome (thread_of after q t) → t ≤ (counts_in (get after.processes q)).threads
+  ended_numbered v q t there =
+      elim (gone_or_same S.processes p q) [
+        | inl gone ↦ absurd (not_true (subst (λ own. IsSome (thread_in (threads_in own) t)) gone there))
+        | inr same ↦ subst (λ own. t ≤ (counts_in own).threads) (sym same.1)
+            (v.numbered q t (subst (λ own. IsSome (thread_in (threads_in own) t)) same.1 there))
+      ]
 
-threads_ended : (S : State) (p : ℕ) (status : Status) → IsNearlyValid S → (q : ℕ) (s : Status) → get (insert S.statuses p status) q ≡ Some s → s ≢ Live
-    → threads_of (put_all (end_updates p (get S.processes p) status) S) q ≡ Some empty
-threads_ended S p status v q s e ends =
-    elim (eqb_tells q p) [
-      | inl is ↦ subst (λ j. threads_of (put_all (end_updates p (get S.processes p) status) S) j ≡ Some empty) (sym is.1) (threads_at S p status)
-      | inr other ↦ ap (option_map (λ (own : ProcessState). own.threads)) (process_apart S p status q other.1)
-          ∙ (v.ended q s (sym (get-insert-other S.statuses p status q other.1) ∙ e) ends).1
-    ]
+  ended_waits : IsNearlyValid S → (q t : ℕ) → MayWait (thread_of after q t)
+  ended_waits v q t =
+      elim (gone_or_same S.processes p q) [
+        | inl gone ↦ subst (λ own. MayWait (thread_in (threads_in own) t)) (sym gone) tt
+        | inr same ↦ subst (λ own. MayWait (thread_in (threads_in own) t)) (sym same.1) (v.waits q t)
+      ]
 
-pub counts_stay : (S : State) (p : ℕ) (status : Status) (q : ℕ) → counts_in (get (put_all (end_updates p (get S.processes p) status) S).processes q) ≡ counts_in (get S.processes q)
-counts_stay S p status q =
-    elim (eqb_tells q p) [
-      | inl is ↦ subst (λ j. counts_in (get (put_all (end_updates p (get S.processes p) status) S).processes j) ≡ counts_in (get S.processes j)) (sym is.1)
-          (ap counts_in (process_at S.processes p))
-      | inr other ↦ ap counts_in (process_apart S p status q other.1)
-    ]
-
-ended_numbered : (S : State) (p : ℕ) (status : Status) → IsNearlyValid S → (q t : ℕ) → IsSome (thread_of (put_all (end_updates p (get S.processes p) status) S) q t)
-    → t ≤ (counts_in (get S.processes q)).threads
-ended_numbered S p status v q t there =
-    elim (eqb_tells q p) [
-      | inl is ↦ absurd (no_thread t (subst (λ o. IsSome (thread_in o t)) (threads_at S p status)
-          (subst (λ j. IsSome (thread_of (put_all (end_updates p (get S.processes p) status) S) j t)) is.1 there)))
-      | inr other ↦ v.numbered q t (subst (λ o. IsSome (thread_in (option_map (λ (own : ProcessState). own.threads) o) t)) (process_apart S p status q other.1) there)
-    ]
-
-ended_waits : (S : State) (p : ℕ) (status : Status) → IsNearlyValid S → (q t : ℕ) → MayWait (thread_of (put_all (end_updates p (get S.processes p) status) S) q t)
-ended_waits S p status v q t =
-    elim (eqb_tells q p) [
-      | inl is ↦ subst (λ j. MayWait (thread_of (put_all (end_updates p (get S.processes p) status) S) j t)) (sym is.1)
-          (subst (λ o. MayWait (thread_in o t)) (sym (threads_at S p status)) (none_waits t))
-      | inr other ↦ subst (λ o. MayWait (thread_in (option_map (λ (own : ProcessState). own.threads) o) t)) (sym (process_apart S p status q other.1)) (v.waits q t)
-    ]
-
--- a process that was made may end
-pub end_nearly_valid : (S : State) (p : ℕ) (status : Status) → IsSome (get S.statuses p) → IsNearlyValid S
-    → IsNearlyValid (put_all (end_updates p (get S.processes p) status) S)
-end_nearly_valid S p status made v = record {
-  named = λ q n table d there here. v.named q n table d (emptied_before S.tables p q n table d there here) here;
-  behind = λ o kind e. behind_same S (put_all (end_updates p (get S.processes p) status) S) (λ _. refl) (λ _ h. h) (λ _. refl) (some_inserted S.statuses p status) kind (v.behind o kind e);
-  sole = v.sole;
-  tables = same_keys_inserted S.tables S.statuses p empty status v.tables;
-  owns = same_keys_inserted S.processes S.statuses p (ended_process (get S.processes p)) status v.owns;
-  ended = λ q s e ends. (
-    ended_after S.tables S.statuses p status (λ r t f live. (v.ended r t f live).0) q s e ends,
-    threads_ended S p status v q s e ends,
-  );
-  numbered = λ q t there. subst (λ (c : Counts). t ≤ c.threads) (sym (counts_stay S p status q)) (ended_numbered S p status v q t there);
-  waits = λ q t. ended_waits S p status v q t;
-  made = λ q k small beyond fits.
-      v.made q k small (subst (λ (c : Counts). c.objects < k) (counts_stay S p status q) beyond) fits;
-  made_nodes = λ q k small beyond fits.
-      v.made_nodes q k small (subst (λ (c : Counts). c.objects < k) (counts_stay S p status q) beyond) fits;
-  born = all_born S.processes _ (end_keeps S.processes p (v.owns p ∙ made)) v.born;
-  tree = v.tree;
-  channels = v.channels;
-  made_channels = λ q k small beyond fits.
-      v.made_channels q k small (subst (λ (c : Counts). c.objects < k) (counts_stay S p status q) beyond) fits;
-}
+  -- a process that was made may end
+  pub end_nearly_valid : IsSome (get S.statuses p) → IsNearlyValid S → IsNearlyValid (put_all (end_updates p status) S)
+  end_nearly_valid made v = record {
+    named = λ q n table d there here. v.named q n table d (ended_before S.tables p q table there) here;
+    behind = λ o kind e. behind_same S after (λ _. refl) (λ _ h. h) (λ _. refl) (some_inserted S.statuses p status) kind (v.behind o kind e);
+    sole = v.sole;
+    tables = ended_alive S.tables S.statuses p status dead v.tables;
+    owns = ended_alive S.processes S.statuses p status dead v.owns;
+    numbered = ended_numbered v;
+    made = λ q k small beyond fits. v.made q k small (uncounted_before q k beyond) fits;
+    made_nodes = λ q k small beyond fits. v.made_nodes q k small (uncounted_before q k beyond) fits;
+    made_channels = λ q k small beyond fits. v.made_channels q k small (uncounted_before q k beyond) fits;
+    born = all_born S.statuses after.statuses S.processes after.processes (some_inserted S.statuses p status) (status_before S.statuses p status made)
+        (ended_keeps S.processes p) v.born;
+    tree = v.tree;
+    waits = ended_waits v;
+    channels = v.channels;
+  }

@@ -18,8 +18,8 @@ use Rattle.abi_types.specs.declared.status.Status.TheVariants.{Live, Exit, Kille
 use Rattle.maps.specs.Closure.{member, IsSubset}
 use Rattle.maps.specs.Maps.{get-retain, same_numbers}
 use Rattle.kernel_model.specs.Channels.{Channel, Gone, without_reader, without_writer, channel_left}
-use Rattle.kernel_model.specs.Release.{holders, carriers, is_of_process, is_reader, is_writer, lives, is_killed, loses_reader, loses_writer, table_left, process_left, status_left, without, ends, without_ended, AllAreHeld, LetsGo, starts, goes}
-use Rattle.kernel_model.specs.State.{State, Table, ProcessState}
+use Rattle.kernel_model.specs.Release.{holders, carriers, is_of_process, is_reader, is_writer, lives, is_killed, loses_reader, loses_writer, own_left, status_left, without, ends, without_ended, AllAreHeld, LetsGo, starts, goes}
+use Rattle.kernel_model.specs.State.{State}
 use Rattle.kernel_model.proofs.Ends.{any_more, carriers_fewer, channel_after, ends_are_least, ends_closed, holders_fewer, process_after, status_after, table_after, without_none}
 use Rattle.kernel_model.proofs.Tests.{either_true, not_true, or_false}
 
@@ -66,9 +66,9 @@ without_same S xs ys more less =
     let reader : (c : ℕ) → loses_reader S xs c ≡ loses_reader S ys c = λ c. any_same (λ o. is_reader c (get S.opens o)) xs ys more less in
     let writer : (c : ℕ) → loses_writer S xs c ≡ loses_writer S ys c = λ c. any_same (λ o. is_writer c (get S.opens o)) xs ys more less in
     let tables : (without xs S).tables ≡ (without ys S).tables =
-    same_numbers _ _ (λ p. table_after S xs p ∙ (λ i. option_map (table_left (killed p i)) (get S.tables p)) ∙ sym (table_after S ys p)) in
+    same_numbers _ _ (λ p. table_after S xs p ∙ (λ i. own_left (killed p i) (get S.tables p)) ∙ sym (table_after S ys p)) in
     let processes : (without xs S).processes ≡ (without ys S).processes =
-    same_numbers _ _ (λ p. process_after S xs p ∙ (λ i. option_map (process_left (killed p i)) (get S.processes p)) ∙ sym (process_after S ys p)) in
+    same_numbers _ _ (λ p. process_after S xs p ∙ (λ i. own_left (killed p i) (get S.processes p)) ∙ sym (process_after S ys p)) in
     let statuses : (without xs S).statuses ≡ (without ys S).statuses =
     same_numbers _ _ (λ p. status_after S xs p ∙ (λ i. option_map (status_left (killed p i)) (get S.statuses p)) ∙ sym (status_after S ys p)) in
     let opens : (without xs S).opens ≡ (without ys S).opens =
@@ -98,17 +98,9 @@ killed_both true false (Some Live) = refl
 killed_both true false (Some (Exit code)) = refl
 killed_both true false (Some (Killed signal)) = refl
 
-table_twice : (a b : Bool) (t : Option Table) → option_map (table_left a) (option_map (table_left b) t) ≡ option_map (table_left (a || b)) t
-table_twice a b None = refl
-table_twice true true (Some t) = refl
-table_twice true false (Some t) = refl
-table_twice false b (Some t) = refl
-
-process_twice : (a b : Bool) (own : Option ProcessState) → option_map (process_left a) (option_map (process_left b) own) ≡ option_map (process_left (a || b)) own
-process_twice a b None = refl
-process_twice true true (Some own) = refl
-process_twice true false (Some own) = refl
-process_twice false b (Some own) = refl
+own_twice : {X : Type 0} (a b : Bool) (own : Option X) → own_left a (own_left b own) ≡ own_left (a || b) own
+own_twice true b own = refl
+own_twice false b own = refl
 
 status_twice : (a b : Bool) (status : Option Status) → option_map (status_left a) (option_map (status_left b) status) ≡ option_map (status_left (a || b)) status
 status_twice a b None = refl
@@ -173,14 +165,14 @@ module _ (S : State) (gone : List ℕ) (o : ℕ) (absent : member o gone ≡ fal
       let next : State = without gone S in
       let tables : (without (o ∷ []) next).tables ≡ (without (o ∷ gone) S).tables =
       same_numbers _ _ (λ p.
-      table_after next (o ∷ []) p ∙ ap (option_map (table_left (is_killed next (o ∷ []) p))) (table_after S gone p)
-      ∙ table_twice (is_killed next (o ∷ []) p) (is_killed S gone p) (get S.tables p)
-      ∙ (λ i. option_map (table_left (killed_then p i)) (get S.tables p)) ∙ sym (table_after S (o ∷ gone) p)) in
+      table_after next (o ∷ []) p ∙ ap (own_left (is_killed next (o ∷ []) p)) (table_after S gone p)
+      ∙ own_twice (is_killed next (o ∷ []) p) (is_killed S gone p) (get S.tables p)
+      ∙ (λ i. own_left (killed_then p i) (get S.tables p)) ∙ sym (table_after S (o ∷ gone) p)) in
       let processes : (without (o ∷ []) next).processes ≡ (without (o ∷ gone) S).processes =
       same_numbers _ _ (λ p.
-      process_after next (o ∷ []) p ∙ ap (option_map (process_left (is_killed next (o ∷ []) p))) (process_after S gone p)
-      ∙ process_twice (is_killed next (o ∷ []) p) (is_killed S gone p) (get S.processes p)
-      ∙ (λ i. option_map (process_left (killed_then p i)) (get S.processes p)) ∙ sym (process_after S (o ∷ gone) p)) in
+      process_after next (o ∷ []) p ∙ ap (own_left (is_killed next (o ∷ []) p)) (process_after S gone p)
+      ∙ own_twice (is_killed next (o ∷ []) p) (is_killed S gone p) (get S.processes p)
+      ∙ (λ i. own_left (killed_then p i) (get S.processes p)) ∙ sym (process_after S (o ∷ gone) p)) in
       let statuses : (without (o ∷ []) next).statuses ≡ (without (o ∷ gone) S).statuses =
       same_numbers _ _ (λ p.
       status_after next (o ∷ []) p ∙ ap (option_map (status_left (is_killed next (o ∷ []) p))) (status_after S gone p)

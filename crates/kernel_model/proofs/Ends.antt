@@ -10,7 +10,7 @@
 --     holders_fewer, carriers_fewer      more opens leave no open with more holders or carriers
 --     without_none      without the end of any open the state is what it was
 --     ends_none      where each open is held none ends
-use Rattle.std.proofs.Common.{◌≡◌, ◌↔◌, ℕ, ◌+◌, ◌<◌, ◌≤◌, ◌==◌, ◌||◌, ◌&&◌, Bool, true, false, cond, List, [], ◌∷◌, Option, Some, None, IsSome, inl, inr, refl, sym, ap, subst, ◌∙◌, arith}
+use Rattle.std.proofs.Common.{◌≡◌, ◌↔◌, ℕ, ◌+◌, ◌<◌, ◌≤◌, ◌==◌, ◌||◌, ◌&&◌, not, Bool, true, false, cond, List, [], ◌∷◌, Option, Some, None, IsSome, inl, inr, refl, sym, ap, subst, ◌∙◌, arith}
 use Rattle.std.proofs.lemmas.Bool.{eqb-true, eq-eqb}
 use Rattle.std.proofs.lemmas.Bool.Decides.{eqb_tells}
 use Rattle.std.specs.Bool.{nat_eq}
@@ -23,10 +23,10 @@ use Rattle.abi_types.specs.declared.open_kind.OpenKind.TheVariants.{File, Direct
 use Rattle.abi_types.specs.declared.status.Status.{Status}
 use Rattle.abi_types.specs.declared.status.Status.TheVariants.{Live, Exit, Killed}
 use Rattle.maps.specs.Closure.{member, IsSubset, closure_closed, closure_ready, closure_least, closure_none, get-changed, total_below}
-use Rattle.maps.specs.Maps.{weight, get-retain, same_numbers, total-empty}
+use Rattle.maps.specs.Maps.{weight, get-retain, same_numbers}
 use Rattle.kernel_model.specs.Channels.{Channel, channel_left}
-use Rattle.kernel_model.specs.Release.{names_open, count_in, holders, carried_in, carriers, is_reader, is_writer, loses_reader, loses_writer, is_of_process, lives, is_killed, table_left, process_left, status_left, without, is_unheld, ends, IsEnd}
-use Rattle.kernel_model.specs.State.{State, Table, ProcessState}
+use Rattle.kernel_model.specs.Release.{count_in, holders, carried_in, carriers, is_reader, is_writer, loses_reader, loses_writer, is_of_process, lives, is_killed, own_left, status_left, without, is_unheld, ends, IsEnd}
+use Rattle.kernel_model.specs.State.{State, Table}
 use Rattle.kernel_model.proofs.Tests.{not_true, either_false, either_true, or_true}
 
 -- ---- lists of numbers
@@ -157,33 +157,28 @@ channel_spared S ended c h =
 
 -- ---- what a process has once some opens have ended
 
-pub table_after : (S : State) (ended : List ℕ) (p : ℕ) → get (without ended S).tables p ≡ option_map (table_left (is_killed S ended p)) (get S.tables p)
-table_after S ended p = get-changed (λ q. table_left (is_killed S ended q)) S.tables p
+left_is : {X : Type 0} (killed : Bool) (own : Option X) → cond (not killed) own None ≡ own_left killed own
+left_is true own = refl
+left_is false own = refl
 
-pub process_after : (S : State) (ended : List ℕ) (p : ℕ)
-    → get (without ended S).processes p ≡ option_map (process_left (is_killed S ended p)) (get S.processes p)
-process_after S ended p = get-changed (λ q. process_left (is_killed S ended q)) S.processes p
+pub table_after : (S : State) (ended : List ℕ) (p : ℕ) → get (without ended S).tables p ≡ own_left (is_killed S ended p) (get S.tables p)
+table_after S ended p = get-retain S.tables (λ q. not (is_killed S ended q)) p ∙ left_is (is_killed S ended p) (get S.tables p)
+
+pub process_after : (S : State) (ended : List ℕ) (p : ℕ) → get (without ended S).processes p ≡ own_left (is_killed S ended p) (get S.processes p)
+process_after S ended p = get-retain S.processes (λ q. not (is_killed S ended q)) p ∙ left_is (is_killed S ended p) (get S.processes p)
 
 pub status_after : (S : State) (ended : List ℕ) (p : ℕ) → get (without ended S).statuses p ≡ option_map (status_left (is_killed S ended p)) (get S.statuses p)
 status_after S ended p = get-changed (λ q. status_left (is_killed S ended q)) S.statuses p
-
-pub same_table : (t : Option Table) → option_map (table_left false) t ≡ t
-same_table None = refl
-same_table (Some t) = refl
-
-pub same_process : (own : Option ProcessState) → option_map (process_left false) own ≡ own
-same_process None = refl
-same_process (Some own) = refl
 
 pub same_status : (status : Option Status) → option_map (status_left false) status ≡ status
 same_status None = refl
 same_status (Some status) = refl
 
 pub table_spared : (S : State) (ended : List ℕ) (p : ℕ) → is_killed S ended p ≡ false → get (without ended S).tables p ≡ get S.tables p
-table_spared S ended p h = table_after S ended p ∙ ap (λ b. option_map (table_left b) (get S.tables p)) h ∙ same_table (get S.tables p)
+table_spared S ended p h = table_after S ended p ∙ ap (λ b. own_left b (get S.tables p)) h
 
 pub process_spared : (S : State) (ended : List ℕ) (p : ℕ) → is_killed S ended p ≡ false → get (without ended S).processes p ≡ get S.processes p
-process_spared S ended p h = process_after S ended p ∙ ap (λ b. option_map (process_left b) (get S.processes p)) h ∙ same_process (get S.processes p)
+process_spared S ended p h = process_after S ended p ∙ ap (λ b. own_left b (get S.processes p)) h
 
 pub status_spared : (S : State) (ended : List ℕ) (p : ℕ) → is_killed S ended p ≡ false → get (without ended S).statuses p ≡ get S.statuses p
 status_spared S ended p h = status_after S ended p ∙ ap (λ b. option_map (status_left b) (get S.statuses p)) h ∙ same_status (get S.statuses p)
@@ -191,17 +186,16 @@ status_spared S ended p h = status_after S ended p ∙ ap (λ b. option_map (sta
 -- ---- holders
 
 lighter : (o : ℕ) (few many : Bool) (t : Option Table) → (few ≡ true → many ≡ true)
-    → weight (count_in o) (option_map (table_left many) t) ≤ weight (count_in o) (option_map (table_left few) t)
-lighter o few many None h = omega arith
-lighter o few true (Some t) h = let none = total-empty (names_open o) in omega arith
-lighter o false false (Some t) h = omega arith
-lighter o true false (Some t) h = absurd (not_true (h refl))
+    → weight (count_in o) (own_left many t) ≤ weight (count_in o) (own_left few t)
+lighter o few true t h = omega arith
+lighter o false false t h = omega arith
+lighter o true false t h = absurd (not_true (h refl))
 
 pub holders_fewer : (S : State) (few many : List ℕ) → IsSubset few many → (o : ℕ) → holders (without many S) o ≤ holders (without few S) o
 holders_fewer S few many more o =
     total_below (count_in o) (count_in o) (without many S).tables (without few S).tables (λ q.
     subst (λ t. weight (count_in o) t ≤ weight (count_in o) (get (without few S).tables q)) (sym (table_after S many q))
-    (subst (λ t. weight (count_in o) (option_map (table_left (is_killed S many q)) (get S.tables q)) ≤ weight (count_in o) t) (sym (table_after S few q))
+    (subst (λ t. weight (count_in o) (own_left (is_killed S many q) (get S.tables q)) ≤ weight (count_in o) t) (sym (table_after S few q))
     (lighter o (is_killed S few q) (is_killed S many q) (get S.tables q) (killed_more S few many more q))))
 
 -- what waits in a channel waits there until its reader has gone

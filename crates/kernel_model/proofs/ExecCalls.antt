@@ -5,7 +5,7 @@
 use Rattle.std.proofs.Common.{◌≡◌, inl, inr, ℕ, zero, suc, ◌+◌, ◌<◌, ◌==◌, ◌||◌, Bool, true, false, cond, List, [], ◌∷◌, ◌++◌, Option, Some, None, is_some, refl, sym, ap, subst, ◌∙◌, arith}
 use Rattle.std.proofs.lemmas.Bool.Decides.{eqb_tells}
 use Rattle.std.specs.Ordering.{nat_cmp}
-use Rattle.std.specs.FinMap.{empty, get, get-empty, insert, retain_keys}
+use Rattle.std.specs.FinMap.{get, get-empty, insert, retain_keys}
 use Rattle.std.specs.Prelude.{if◌then◌else◌}
 use Rattle.elf_image.specs.Checks.{fault_of}
 use Rattle.elf_image.specs.declared.fault.ElfFault.{ElfFault}
@@ -17,7 +17,7 @@ use Rattle.abi_types.specs.declared.descriptor.Descriptor.{Descriptor}
 use Rattle.abi_types.specs.declared.open_kind.OpenKind.{OpenKind}
 use Rattle.abi_types.specs.declared.open_kind.OpenKind.TheVariants.{File, Directory, End, Terminal, Process}
 use Rattle.abi_types.specs.declared.thread.Thread.{Thread}
-use Rattle.maps.specs.Maps.{get-insert-same, get-insert-other, get-retain, same_numbers}
+use Rattle.maps.specs.Maps.{get-insert-same, get-insert-other, get-retain}
 use Rattle.kernel_model.specs.Families.ClockCalls.{can_draw}
 use Rattle.kernel_model.specs.Families.ForkCalls.{exec_checked, exec_if, exec_in, exec_open, listed, listed_from, proc_exec, put_where}
 use Rattle.kernel_model.specs.Families.OpenMeaning.{at_descriptor}
@@ -38,7 +38,7 @@ use Rattle.kernel_model.proofs.OwnChanges.{Grows, set_process_nearly_valid}
 use Rattle.kernel_model.proofs.Parts.{beyond_process, number_apart, outside_cons, own_becomes, own_stays}
 use Rattle.kernel_model.proofs.Sights.{first_seen, open_seen}
 use Rattle.kernel_model.proofs.Tests.{none_is_no, not_true}
-use Rattle.kernel_model.proofs.Valids.{holder_lives, same_value, table_nearly_valid}
+use Rattle.kernel_model.proofs.Valids.{same_value, table_nearly_valid}
 
 -- ---- the descriptors that are listed
 
@@ -179,16 +179,9 @@ retained_was threads t u thread at = of_test (u == t) (sym (get-retain threads (
   of_test true is = is
   of_test false is = absurd (none_is_no thread is)
 
-retained_empty : (t : ℕ) → retain_keys (empty {X = Thread} {R = nat_cmp}) (λ k. k == t) ≡ empty
-retained_empty t = same_numbers _ _ (λ u. get-retain (empty {X = Thread} {R = nat_cmp}) (λ k. k == t) u ∙ none (u == t) u) where
-  none : (b : Bool) (u : ℕ) → cond b (get (empty {X = Thread} {R = nat_cmp}) u) None ≡ get (empty {X = Thread} {R = nat_cmp}) u
-  none true u = refl
-  none false u = sym (get-empty nat_cmp u)
-
 anew_grows : (words t : ℕ) (own : ProcessState) → Grows own (begun_anew words t own)
 anew_grows words t own = record {
   threads = λ u thread at. inl (retained_was own.threads t u thread at);
-  none = λ none. ap (λ (m : Threads). retain_keys m (λ k. k == t)) none ∙ retained_empty t;
   numbered = omega arith;
   more = omega arith;
   children = (refl, omega arith);
@@ -201,7 +194,7 @@ exec_valid key p t fd fds table S d at has v =
     (λ x node own is program there.
     let anew = set_process_nearly_valid S p own (begun_anew canary_words t own) there
     (anew_grows canary_words t own) v in
-    table_nearly_valid (put_one (set_process p (begun_anew canary_words t own)) S) p table (listed table fds) has (holder_lives S p fd table x has (at ∙ is) v)
+    table_nearly_valid (put_one (set_process p (begun_anew canary_words t own)) S) p table (listed table fds) has
     (listed_all (λ y. IsNamed (get S.opens y.id) y) table (λ n y here. v.named p n table y has here) 0 fds) anew)
 
 own_twice : (p : ℕ) (q : Part) → same_part (at_proc p) q ≡ false → (same_part (at_proc p) q || (same_part (at_proc p) q || false)) ≡ false

@@ -9,13 +9,11 @@ use Rattle.std.specs.Prelude.{if◌then◌else◌}
 use Rattle.abi_base.specs.declared.errno.Errno.{Errno}
 use Rattle.abi_types.specs.declared.open_kind.OpenKind.{OpenKind}
 use Rattle.abi_types.specs.declared.open_kind.OpenKind.TheVariants.{Process}
-use Rattle.abi_types.specs.declared.status.Status.{Status}
 use Rattle.abi_types.specs.declared.status.Status.TheVariants.{Live}
 use Rattle.abi_types.specs.declared.thread.Thread.{Thread}
 use Rattle.abi_types.specs.declared.thread.Thread.TheVariants.{Runnable}
 use Rattle.maps.specs.Maps.{get-insert-same, get-insert-other}
 use Rattle.kernel_model.specs.ChildLaws.{IsUnmade}
-use Rattle.kernel_model.specs.Families.Children.{IsChild}
 use Rattle.kernel_model.specs.Families.DescriptorCalls.{lowest_free}
 use Rattle.kernel_model.specs.Families.ForkCalls.{child_descriptor, child_kind, child_number, child_object, child_open, child_process, fork_at, fork_updates, proc_fork}
 use Rattle.kernel_model.specs.Families.Numbers.{made_more, object_of, object_parts}
@@ -24,20 +22,21 @@ use Rattle.kernel_model.specs.Proper.{IsPlain, IsProper, IsUnset, AllCarryOn}
 use Rattle.kernel_model.specs.Release.{is_of_process}
 use Rattle.kernel_model.specs.Sight.{process_parts}
 use Rattle.kernel_model.specs.State.{State, ProcessState, Table, Part, at_chan, at_clock, at_node, at_names, at_open, at_proc, at_status, counts_in, has_part, put_all, put_one, same_part, set_open, set_process, set_status, set_table, thread_in}
-use Rattle.kernel_model.specs.Valid.{AreSole, IsNamed, IsNearlyValid}
-use Rattle.kernel_model.proofs.Births.{CanFork, child_apart, fork_errors, fork_holds, forks, may_is, next_is}
-use Rattle.kernel_model.proofs.ChildLaws.{child_is_unmade, not_first}
+use Rattle.kernel_model.specs.Valid.{AreSole, IsNamed, IsNearlyValid, IsUncounted}
+use Rattle.kernel_model.proofs.Births.{CanFork, fork_errors, fork_holds, forks, may_is, next_is}
+use Rattle.kernel_model.proofs.ChildLaws.{child_apart, child_is_unmade, not_first}
 use Rattle.kernel_model.proofs.NewOpens.{new_open_nearly_valid}
 use Rattle.kernel_model.proofs.NewProcesses.{IsFresh, new_process_nearly_valid}
 use Rattle.kernel_model.proofs.ObjectNumbers.{numbers_fit}
 use Rattle.kernel_model.proofs.OwnChanges.{Grows, set_process_nearly_valid}
-use Rattle.kernel_model.proofs.PairCalls.{false_never, inserted_named, thread_lives}
+use Rattle.kernel_model.proofs.PairCalls.{false_never, inserted_named}
 use Rattle.kernel_model.proofs.Pairs.{first_sole}
 use Rattle.kernel_model.proofs.Parts.{beyond_process, number_apart, of_first, of_second, outside_cons, own_stays}
 use Rattle.kernel_model.proofs.Sights.{first_seen}
 use Rattle.kernel_model.proofs.Tests.{none_is_no, not_true}
 use Rattle.kernel_model.proofs.TreeUpdates.{one_object}
-use Rattle.kernel_model.proofs.Valids.{same_value, table_nearly_valid}
+use Rattle.kernel_model.proofs.NewBorn.{IsNextOf}
+use Rattle.kernel_model.proofs.Valids.{holder_is_made, owner_makes, same_value, table_nearly_valid}
 
 -- ---- what it sets
 
@@ -92,7 +91,6 @@ fork_others left p t own table fd q can other unborn =
 fork_grows : (own : ProcessState) → Grows own (made_more 2 (with_next_child own))
 fork_grows own = record {
   threads = λ t thread there. inl there;
-  none = λ none. none;
   numbered = omega arith;
   more = omega arith;
   children = (refl, omega arith);
@@ -124,9 +122,6 @@ module _ (S : State) (left p t : ℕ) (own : ProcessState) (there : get S.proces
   child_is_not_parent : c ≢ p
   child_is_not_parent = child_apart own.depth p (own.counts.forks + 1) (may_is own can.bears)
 
-  no_process : get counted.processes c ≡ None
-  no_process = get-insert-other S.processes p new c child_is_not_parent ∙ unmade.process
-
   fresh : IsFresh (child_process t own)
   fresh = record { runs = runs; nothing = refl } where
     runs : (u : ℕ) (thread : Thread) → get (child_process t own).threads u ≡ Some thread → (thread ≡ Runnable) × (u ≤ own.counts.threads)
@@ -142,16 +137,18 @@ module _ (S : State) (left p t : ℕ) (own : ProcessState) (there : get S.proces
           | inr other ↦ absurd (none_is_no thread (sym (get-insert-other empty t Runnable u other.1 ∙ get-empty nat_cmp u) ∙ at))
         ]
 
-  child : IsChild counted.processes c (own.depth + 1)
-  child = record {
+  next : IsNextOf counted.statuses counted.processes c (own.depth + 1)
+  next = record {
     parent = p;
     own = new;
-    made = get-insert-same S.processes p new;
+    lives = holder_is_made S p table v has_table;
+    there = get-insert-same S.processes p new;
     i = own.counts.forks + 1;
     may = may_is own can.bears;
     counted = omega arith;
     number = refl;
-    deeper = refl;
+    deeper = omega arith;
+    unmade = unmade.status;
   }
 
   abbrev grown : State
@@ -159,14 +156,13 @@ module _ (S : State) (left p t : ℕ) (own : ProcessState) (there : get S.proces
 
   grown_valid : IsNearlyValid grown
   grown_valid =
-      new_process_nearly_valid counted counted_valid c (child_process t own) table no_process fresh child (λ n d at. v.named p n table d has_table at)
+      new_process_nearly_valid counted counted_valid c (child_process t own) table next fresh (λ n d at. v.named p n table d has_table at)
 
   fit : (p < 0xffffffff) × (own.counts.objects + 2 < 2 ^ 32)
   fit = numbers_fit p 1 (Some own) can.number
 
   no_open : get S.opens o ≡ None
-  no_open =
-      v.made p (own.counts.objects + 2) fit.0 (subst (λ x. (counts_in x).objects < own.counts.objects + 2) (sym there) (omega arith)) fit.1
+  no_open = v.made p (own.counts.objects + 2) fit.0 (owner_makes S p (own.counts.objects + 2) own v there (omega arith)) fit.1
 
   -- no open is of the child yet
   none_of_child : (r : ℕ) → is_of_process c (get S.opens r) ≡ true → ⊥
@@ -183,7 +179,7 @@ module _ (S : State) (left p t : ℕ) (own : ProcessState) (there : get S.proces
     false_never,
   )) v.sole
 
-  beyond_open : (q k : ℕ) → q < 0xffffffff → (counts_in (get grown.processes q)).objects < k → k < 2 ^ 32 → object_of q k ≢ o
+  beyond_open : (q k : ℕ) → q < 0xffffffff → IsUncounted grown q k → k < 2 ^ 32 → object_of q k ≢ o
   beyond_open q k small beyond fits is =
       let first = fit.1 in
       let at = one_object p q (own.counts.objects + 2) k is fits first in
@@ -191,7 +187,7 @@ module _ (S : State) (left p t : ℕ) (own : ProcessState) (there : get S.proces
       let total : (counts_in (get grown.processes p)).objects ≡ own.counts.objects + 2 =
       ap (λ x. (counts_in x).objects)
       (get-insert-other counted.processes c (child_process t own) p (λ e. child_is_not_parent (sym e)) ∙ get-insert-same S.processes p new) in
-      let past : (counts_in (get grown.processes p)).objects < k = subst (λ r. (counts_in (get grown.processes r)).objects < k) at.0 beyond in
+      let past : (counts_in (get grown.processes p)).objects < k = subst (λ r. (counts_in (get grown.processes r)).objects < k) at.0 beyond.1 in
       omega (arith, same, total, past)
 
   abbrev opened : State
@@ -205,13 +201,9 @@ module _ (S : State) (left p t : ℕ) (own : ProcessState) (there : get S.proces
   parent_table : get opened.tables p ≡ Some table
   parent_table = get-insert-other S.tables c table p (λ e. child_is_not_parent (sym e)) ∙ has_table
 
-  parent_lives : (status : Status) → get opened.statuses p ≡ Some status → status ≢ Live → ⊥
-  parent_lives status is ends =
-      thread_lives S p t own there can.some v status (sym (get-insert-other S.statuses c Live p (λ e. child_is_not_parent (sym e))) ∙ is) ends
-
   pub forks_valid : (fd : ℕ) → IsNearlyValid (put_all (fork_updates p t own table fd) S)
   forks_valid fd =
-      table_nearly_valid opened p table (insert table fd (child_descriptor p own)) parent_table parent_lives
+      table_nearly_valid opened p table (insert table fd (child_descriptor p own)) parent_table
       (inserted_named opened opened_valid p table parent_table fd fd (child_descriptor p own) (child_descriptor p own) child_named child_named
       table fd (child_descriptor p own) child_named (λ n y at. opened_valid.named p n table y parent_table at)) opened_valid where
         child_named : IsNamed (get opened.opens (child_descriptor p own).id) (child_descriptor p own)

@@ -33,13 +33,13 @@ use Rattle.kernel_model.specs.Families.Numbers.{made_more}
 use Rattle.kernel_model.specs.OwnChanges.{begun_anew, is_success, next_child, with_next_child}
 use Rattle.kernel_model.specs.Release.{carriers, count_in, ends, holders, names_open, release, without_ended}
 use Rattle.kernel_model.specs.Start.{canary_words}
-use Rattle.kernel_model.specs.State.{ProcessState, State, Table, counts_in, put_all, set_process, set_table, thread_in, thread_of}
+use Rattle.kernel_model.specs.State.{ProcessState, State, Table, put_all, set_process, set_table, thread_in, thread_of}
 use Rattle.kernel_model.specs.Step.{tick, IsStep}
 use Rattle.kernel_model.specs.Threads.{child_made}
 use Rattle.kernel_model.specs.Valid.{IsValid}
 use Rattle.kernel_model.specs.View.{whole}
-use Rattle.kernel_model.proofs.Births.{CanFork, child_apart, fork_holds, may_is, next_is}
-use Rattle.kernel_model.proofs.ChildLaws.{child_is_unmade}
+use Rattle.kernel_model.proofs.Births.{CanFork, fork_holds, may_is, next_is}
+use Rattle.kernel_model.proofs.ChildLaws.{child_apart, child_is_unmade}
 use Rattle.kernel_model.proofs.DescriptorCalls.{free_is_absent}
 use Rattle.kernel_model.proofs.Ends.{table_spared}
 use Rattle.kernel_model.proofs.ExecCalls.{exec_at_holds, listed_at}
@@ -51,7 +51,7 @@ use Rattle.kernel_model.proofs.ThreadLaws.{Comes, fails}
 use Rattle.kernel_model.proofs.Threads.{refusal_of_fails}
 use Rattle.kernel_model.proofs.Touches.{live_spared}
 use Rattle.kernel_model.proofs.Tests.{none_is_no, not_true, same_some}
-use Rattle.kernel_model.proofs.Valids.{ended_held}
+use Rattle.kernel_model.proofs.Valids.{ended_held, owner_makes}
 
 -- what each outcome comes to that is a success, where the call isn't refused, each step with one does
 comes_by : (P : Reply → State → Type 0) (constants : Constants) (S : State) (who : Who) (call : Call) (reply : Reply) (T : State)
@@ -86,7 +86,7 @@ module _ (S : State) (who : Who) (own : ProcessState) (there : get S.processes w
   no_open =
       let fit = numbers_fit who.pid 1 (Some own) can.number in
       valid.nearly.made who.pid (own.counts.objects + 2) fit.0
-      (subst (λ x. (counts_in x).objects < own.counts.objects + 2) (sym there) (omega arith)) fit.1
+      (owner_makes S who.pid (own.counts.objects + 2) own valid.nearly there (omega arith)) fit.1
 
   -- each open that was held is held by as many, and the child's by its parent
   held_more : (o : ℕ) → holders forked o ≡ holders S o + count_in o table + names_open o (child_descriptor who.pid own)

@@ -109,7 +109,7 @@ module _ (S : State) (nearly : IsNearlyValid S) where
         forked_found : (errno : Errno) → IsIn errno fork_errors → errno ≡ Badf → ⊥
         forked_found errno here = in_all (λ x. x ≡ Badf → ⊥) errno fork_errors ((λ e. cc), ((λ e. cc), tt)) here
   found (call.ProcRaise signal) = λ constants who table own all met.
-      raise_holds (OnlyWhere (IsBadfBefore (call.ProcRaise signal))) who.pid (get S.processes who.pid) (λ errno here. raised_found errno here) (λ e. cc)
+      raise_holds (OnlyWhere (IsBadfBefore (call.ProcRaise signal))) who.pid (λ errno here. raised_found errno here) (λ e. cc)
       (λ found e. cc) (signal_of signal) where
         raised_found : (errno : Errno) → IsIn errno raise_errors → errno ≡ Badf → ⊥
         raised_found errno here = in_all (λ x. x ≡ Badf → ⊥) errno raise_errors ((λ e. cc), ((λ e. cc), tt)) here

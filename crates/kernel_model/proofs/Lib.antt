@@ -47,6 +47,7 @@ pub mod LockPolls
 pub mod ThreadCalls
 pub mod ClockCalls
 pub mod Births
+pub mod NewBorn
 pub mod NewProcesses
 pub mod ForkCalls
 pub mod ExecCalls

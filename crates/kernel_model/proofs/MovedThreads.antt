@@ -1,26 +1,17 @@
 -- States in which locks were given to threads of a process that wait, or such threads were signalled.
 --     moved_nearly_valid      a nearly valid state stays so
 --     moved_keeps, moved_counts      what becomes of each thread, and of what each process has made
-use Rattle.std.proofs.Common.{◌≡◌, ◌≢◌, inl, inr, ℕ, ◌≤◌, Some, is_some, refl, sym, ap, subst, ◌∙◌, arith}
-use Rattle.std.proofs.lemmas.Bool.Decides.{eqb_tells}
-use Rattle.std.specs.Ordering.{nat_cmp}
-use Rattle.std.specs.FinMap.{empty, get, get-empty, insert}
+use Rattle.std.proofs.Common.{◌≡◌, ◌≢◌, ℕ, ◌≤◌, Some, refl, sym, ap, subst, ◌∙◌, arith}
+use Rattle.std.specs.FinMap.{get, insert}
 use Rattle.abi_types.specs.declared.counts.Counts.{Counts}
-use Rattle.maps.specs.Maps.{get-insert-same, get-insert-other, same_numbers}
+use Rattle.maps.specs.Maps.{get-insert-same, get-insert-other}
 use Rattle.tree_model.specs.Entries.{here_or_other}
 use Rattle.kernel_model.specs.Families.Locks.{with_threads}
-use Rattle.kernel_model.specs.State.{State, ProcessState, Threads, counts_in, put_one, set_process, thread_in, thread_of, threads_of}
+use Rattle.kernel_model.specs.State.{State, ProcessState, Threads, counts_in, put_one, set_process, thread_in, thread_of}
 use Rattle.kernel_model.specs.Valid.{IsNearlyValid}
 use Rattle.kernel_model.proofs.Children.{one_keeps, KeepsChildren}
 use Rattle.kernel_model.proofs.Locks.{keeps_same, Keeps, KeepsEach}
-use Rattle.kernel_model.proofs.Tests.{none_of, same_some}
 use Rattle.kernel_model.proofs.Valids.{processes_nearly_valid, some_again, threads_in}
-
--- where there is no thread there is none after it
-still_none : (before after : Threads) → KeepsEach before after → before ≡ empty → after ≡ empty
-still_none before after keeps none =
-    same_numbers after empty (λ t.
-    none_of (get after t) ((keeps t).here ∙ ap (λ (m : Threads). is_some (get m t)) none ∙ ap is_some (get-empty nat_cmp t)) ∙ sym (get-empty nat_cmp t))
 
 module _ (S : State) (p : ℕ) (own : ProcessState) (threads : Threads) (there : get S.processes p ≡ Some own) (keeps : KeepsEach own.threads threads) where
   abbrev after : State
@@ -44,17 +35,6 @@ module _ (S : State) (p : ℕ) (own : ProcessState) (threads : Threads) (there :
       (subst (λ o. Keeps (get own.threads t) (thread_in (threads_in o) t)) (sym here) (keeps t)))
       (λ apart. subst (λ o. Keeps (thread_of S q t) (thread_in (threads_in o) t)) (sym (other q apart)) (keeps_same (thread_of S q t)))
 
-  -- a process without threads has none still
-  still_bare : (q : ℕ) → threads_of S q ≡ Some empty → threads_of after q ≡ Some empty
-  still_bare q bare =
-      elim (eqb_tells q p) [
-        | inl is ↦ subst (λ k. threads_of after k ≡ Some empty) (sym is.1)
-            (ap threads_in here
-            ∙ ap Some (still_none own.threads threads keeps
-            (same_some own.threads empty (sym (ap threads_in there) ∙ subst (λ k. threads_of S k ≡ Some empty) is.1 bare))))
-        | inr apart ↦ ap threads_in (other q apart.1) ∙ bare
-      ]
-
   same_children : KeepsChildren (Some own) (Some (with_threads own threads))
   same_children = (refl, omega arith)
 
@@ -63,7 +43,6 @@ module _ (S : State) (p : ℕ) (own : ProcessState) (threads : Threads) (there :
       processes_nearly_valid S (insert S.processes p (with_threads own threads))
       (record {
         there = λ q. some_again S.processes p own (with_threads own threads) q there;
-        bare = still_bare;
         numbered = λ q t now. subst (λ (c : Counts). t ≤ c.threads) (sym (moved_counts q)) (v.numbered q t (sym (moved_keeps q t).here ∙ now));
         waits = λ q t. (moved_keeps q t).may (v.waits q t);
         more = λ q. let same = ap (λ (c : Counts). c.objects) (moved_counts q) in omega (arith, same);

@@ -27,7 +27,7 @@ use Rattle.kernel_model.proofs.Branches.{IsSeen, all_behind_is_seen}
 use Rattle.kernel_model.proofs.DescriptorCalls.{other_table, process_table}
 use Rattle.kernel_model.proofs.FileMeanings.{open_has_behind, tree_carries, tree_processes, tree_tables, tree_unset}
 use Rattle.kernel_model.proofs.NameMeanings.{IsGood, IsPlainly, IsUnsetBy, NamesWell, SetsAlike, new_node_parts}
-use Rattle.kernel_model.proofs.ObjectNumbers.{fewer_fit, next_is_absent}
+use Rattle.kernel_model.proofs.ObjectNumbers.{next_is_absent}
 use Rattle.kernel_model.proofs.Parts.{KeepsOwn, own_stays, beyond_process, has_left, has_of_both, has_right}
 use Rattle.kernel_model.proofs.Sights.{first_seen}
 use Rattle.kernel_model.proofs.Tests.{either_false, either_true, not_true}
@@ -249,8 +249,7 @@ module _ (m : NameMeaning) (well : NamesWell m) where
       outcome_valid S p m.new_nodes (comes_to now S p a b) v (λ can.
       well.good now (next_object p (get S.processes p) 1) S (open_of (whole S) a) (open_of (whole S) b)
       (λ k is. open_has_behind S a v k is) (λ k is. open_has_behind S b v k is) v.tree (λ some.
-      let fits = fewer_fit p 1 m.new_nodes (get S.processes p) (omega arith) (omega (arith, some)) can in
-      (next_is_absent S p 1 v fits.0 (omega arith) fits.1).1))
+      (next_is_absent S p 1 m.new_nodes v (omega arith) (omega (arith, some)) can).1))
 
   -- ---- both kinds of calls
 

@@ -10,12 +10,12 @@ use Rattle.abi_types.specs.declared.descriptor.Descriptor.{Descriptor}
 use Rattle.abi_types.specs.declared.open_kind.OpenKind.{OpenKind}
 use Rattle.maps.specs.Maps.{get-insert-same, get-insert-other}
 use Rattle.kernel_model.specs.Families.Numbers.{object_of}
-use Rattle.kernel_model.specs.State.{State, Table, Update, counts_in, put_all, put_one, set_names, set_node, set_open, set_process, set_table}
-use Rattle.kernel_model.specs.Valid.{AreSole, HasBehind, IsNamed, IsNearlyValid}
+use Rattle.kernel_model.specs.State.{State, Table, Update, put_all, put_one, set_names, set_node, set_open, set_process, set_table}
+use Rattle.kernel_model.specs.Valid.{AreSole, HasBehind, IsNamed, IsNearlyValid, IsUncounted}
 use Rattle.kernel_model.specs.Release.{is_reader, is_writer}
 use Rattle.kernel_model.proofs.Channels.{KeepsEnds}
 use Rattle.kernel_model.proofs.Tests.{not_true}
-use Rattle.kernel_model.proofs.Valids.{holder_lives, opens_nearly_valid, same_value, table_nearly_valid}
+use Rattle.kernel_model.proofs.Valids.{opens_nearly_valid, same_value, table_nearly_valid}
 
 -- ---- the order of updates
 
@@ -73,7 +73,7 @@ module _ (S : State) (o : ℕ) (kind : OpenKind) (none : get S.opens o ≡ None)
       ]
 
   pub new_open_nearly_valid : HasBehind S kind → AreSole (insert S.opens o kind)
-      → ((p k : ℕ) → p < 0xffffffff → (counts_in (get S.processes p)).objects < k → k < 2 ^ 32 → object_of p k ≢ o)
+      → ((p k : ℕ) → p < 0xffffffff → IsUncounted S p k → k < 2 ^ 32 → object_of p k ≢ o)
       → IsNearlyValid (put_one (set_open o kind) S)
   new_open_nearly_valid there sole apart =
       opens_nearly_valid S (insert S.opens o kind) still_named (still_behind there) sole
@@ -93,6 +93,6 @@ module _ (S : State) (p : ℕ) (table : Table) (there : get S.tables p ≡ Some 
         | inr apart ↦ v.named p n table d there (sym (get-insert-other table fd e n apart.1) ∙ here)
       ]
 
-  -- a process that has some descriptor may have one more
-  pub new_descriptor_nearly_valid : (n : ℕ) (d : Descriptor) → get table n ≡ Some d → IsNearlyValid (put_one (set_table p (insert table fd e)) S)
-  new_descriptor_nearly_valid n d here = table_nearly_valid S p table (insert table fd e) there (holder_lives S p n table d there here v) more_named v
+  -- a process may have one descriptor more
+  pub new_descriptor_nearly_valid : IsNearlyValid (put_one (set_table p (insert table fd e)) S)
+  new_descriptor_nearly_valid = table_nearly_valid S p table (insert table fd e) there more_named v

@@ -1,42 +1,22 @@
 -- A state with one process more.
---     more_born      processes that were born are so among more of them
 --     new_process_nearly_valid      a nearly valid state stays so with a child of a process
-use Rattle.std.proofs.Common.{◌≡◌, ◌≢◌, ℕ, ◌<◌, ◌≤◌, [], ◌∷◌, inl, inr, Option, Some, None, IsSome, refl, sym, ap, subst, ◌∙◌}
+use Rattle.std.proofs.Common.{◌≡◌, ◌≢◌, ℕ, ◌<◌, ◌≤◌, [], ◌∷◌, inl, inr, Option, Some, None, IsSome, is_some, refl, sym, ap, subst, ◌∙◌, arith}
 use Rattle.std.proofs.lemmas.Bool.Decides.{eqb_tells}
 use Rattle.std.specs.Ordering.{nat_cmp}
-use Rattle.std.specs.FinMap.{FinMap, empty, get, insert}
+use Rattle.std.specs.FinMap.{FinMap, get, insert}
 use Rattle.std.specs.Option.{option_map}
 use Rattle.abi_types.specs.declared.descriptor.Descriptor.{Descriptor}
-use Rattle.abi_types.specs.declared.status.Status.{Status}
 use Rattle.abi_types.specs.declared.status.Status.TheVariants.{Live}
 use Rattle.abi_types.specs.declared.thread.Thread.{Thread}
 use Rattle.abi_types.specs.declared.thread.Thread.TheVariants.{Runnable}
 use Rattle.maps.specs.Maps.{get-insert-same, get-insert-other}
-use Rattle.kernel_model.specs.Families.Children.{IsBorn, IsChild}
-use Rattle.kernel_model.specs.State.{State, ProcessState, Table, Threads, counts_in, put_all, set_process, set_status, set_table, thread_in, thread_of, threads_of}
-use Rattle.kernel_model.specs.Valid.{IsNamed, IsNearlyValid}
+use Rattle.kernel_model.specs.Release.{lives}
+use Rattle.kernel_model.specs.State.{State, ProcessState, Table, Threads, counts_in, put_all, set_process, set_status, set_table, thread_in, thread_of}
+use Rattle.kernel_model.specs.Valid.{has_ended, IsNamed, IsNearlyValid, IsUncounted}
 use Rattle.kernel_model.specs.Waits.{MayWait}
-use Rattle.kernel_model.proofs.Tests.{none_is_no, not_true}
-use Rattle.kernel_model.proofs.Valids.{behind_same, same_keys_inserted, same_value, some_inserted}
-
--- ---- children
-
-module _ (old new : FinMap nat_cmp ProcessState) (more : (q : ℕ) (own : ProcessState) → get old q ≡ Some own → get new q ≡ Some own) where
-  more_child : (p depth : ℕ) → IsChild old p depth → IsChild new p depth
-  more_child p depth child = record {
-    parent = child.parent;
-    own = child.own;
-    made = more child.parent child.own child.made;
-    i = child.i;
-    may = child.may;
-    counted = child.counted;
-    number = child.number;
-    deeper = child.deeper;
-  }
-
-  pub more_born : (p depth : ℕ) → IsBorn old p depth → IsBorn new p depth
-  more_born p depth (inl first) = inl first
-  more_born p depth (inr child) = inr (more_child p depth child)
+use Rattle.kernel_model.proofs.NewBorn.{IsNextOf, new_born}
+use Rattle.kernel_model.proofs.Tests.{none_of, not_true}
+use Rattle.kernel_model.proofs.Valids.{behind_same, same_value, some_inserted}
 
 -- ---- the state
 
@@ -48,8 +28,8 @@ pub record IsFresh (own : ProcessState) : Type 0 where
   pub runs : (t : ℕ) (thread : Thread) → get own.threads t ≡ Some thread → (thread ≡ Runnable) × (t ≤ own.counts.threads)
   pub nothing : own.counts.objects ≡ 0
 
-module _ (S : State) (v : IsNearlyValid S) (c : ℕ) (own : ProcessState) (table : Table) (none : get S.processes c ≡ None) (fresh : IsFresh own)
-    (child : IsChild S.processes c own.depth) (named : (n : ℕ) (d : Descriptor) → get table n ≡ Some d → IsNamed (get S.opens d.id) d) where
+module _ (S : State) (v : IsNearlyValid S) (c : ℕ) (own : ProcessState) (table : Table) (next : IsNextOf S.statuses S.processes c own.depth)
+    (fresh : IsFresh own) (named : (n : ℕ) (d : Descriptor) → get table n ≡ Some d → IsNamed (get S.opens d.id) d) where
   abbrev after : State
   after = put_all (set_table c table ∷ set_process c own ∷ set_status c Live ∷ []) S
 
@@ -69,17 +49,6 @@ module _ (S : State) (v : IsNearlyValid S) (c : ℕ) (own : ProcessState) (table
         | inr other ↦ v.named q n tb d (sym (get-insert-other S.tables c table q other.1) ∙ at) has
       ]
 
-  all_ended : (q : ℕ) (status : Status) → get (insert S.statuses c Live) q ≡ Some status → status ≢ Live
-      → (get (insert S.tables c table) q ≡ Some empty) × (threads_of after q ≡ Some empty)
-  all_ended q status at ends =
-      elim (eqb_tells q c) [
-        | inl is ↦ absurd (ends (sym (same_value Live status (get (insert S.statuses c Live) c) (get-insert-same S.statuses c Live)
-            (subst (λ k. get (insert S.statuses c Live) k ≡ Some status) is.1 at))))
-        | inr other ↦ (
-            let was = v.ended q status (sym (get-insert-other S.statuses c Live q other.1) ∙ at) ends in
-            (get-insert-other S.tables c table q other.1 ∙ was.0, ap threads_in (apart q other.1) ∙ was.1))
-      ]
-
   some_numbered : (t : ℕ) (o : Option Thread) → get own.threads t ≡ o → IsSome o → t ≤ own.counts.threads
   some_numbered t None at some = absurd (not_true some)
   some_numbered t (Some thread) at some = (fresh.runs t thread at).1
@@ -95,27 +64,24 @@ module _ (S : State) (v : IsNearlyValid S) (c : ℕ) (own : ProcessState) (table
             (v.numbered q t (subst (λ o. IsSome (thread_in (threads_in o) t)) (apart q other.1) some))
       ]
 
-  -- nobody has made more than before
-  same_made : (q : ℕ) → (counts_in (get after.processes q)).objects ≡ (counts_in (get S.processes q)).objects
-  same_made q =
+  -- nobody may still make more than before
+  uncounted_before : (q k : ℕ) → IsUncounted after q k → IsUncounted S q k
+  uncounted_before q k uncounted =
       elim (eqb_tells q c) [
-        | inl is ↦ subst (λ k. (counts_in (get after.processes k)).objects ≡ (counts_in (get S.processes k)).objects) (sym is.1)
-            (ap (λ o. (counts_in o).objects) here ∙ fresh.nothing ∙ sym (ap (λ o. (counts_in o).objects) none))
-        | inr other ↦ ap (λ o. (counts_in o).objects) (apart q other.1)
-      ]
+        | inl is ↦ subst (λ j. IsUncounted S j k) (sym is.1) (new_uncounted (subst (λ j. IsUncounted after j k) is.1 uncounted).1)
+        | inr other ↦ (
+          sym (ap has_ended (get-insert-other S.statuses c Live q other.1)) ∙ uncounted.0,
+          subst (λ o. (counts_in o).objects < k) (apart q other.1) uncounted.1,
+        )
+      ] where
+        none : get S.processes c ≡ None
+        none = none_of (get S.processes c) (v.owns c ∙ ap lives next.unmade)
 
-  was_there : (q : ℕ) (x : ProcessState) → get S.processes q ≡ Some x → get after.processes q ≡ Some x
-  was_there q x at = apart q (λ is. none_is_no x (sym none ∙ ap (get S.processes) (sym is) ∙ at)) ∙ at
-
-  all_born : (q : ℕ) (x : ProcessState) → get after.processes q ≡ Some x → IsBorn after.processes q x.depth
-  all_born q x at =
-      elim (eqb_tells q c) [
-        | inl is ↦ (
-            let same : own ≡ x = same_value own x (get after.processes c) here (subst (λ k. get after.processes k ≡ Some x) is.1 at) in
-            subst (λ k. IsBorn after.processes k x.depth) (sym is.1)
-            (subst (λ (y : ProcessState). IsBorn after.processes c y.depth) same (more_born S.processes after.processes was_there c own.depth (inr child))))
-        | inr other ↦ more_born S.processes after.processes was_there q x.depth (v.born q x (sym (apart q other.1) ∙ at))
-      ]
+        new_uncounted : (counts_in (get after.processes c)).objects < k → IsUncounted S c k
+        new_uncounted beyond =
+            let nothing : own.counts.objects ≡ 0 = fresh.nothing in
+            let some : own.counts.objects < k = subst (λ o. (counts_in o).objects < k) here beyond in
+            (ap has_ended next.unmade, subst (λ o. (counts_in o).objects < k) (sym none) (omega (arith, nothing, some)))
 
   runs_may : (t : ℕ) (o : Option Thread) → get own.threads t ≡ o → MayWait o
   runs_may t None at = tt
@@ -129,22 +95,27 @@ module _ (S : State) (v : IsNearlyValid S) (c : ℕ) (own : ProcessState) (table
         | inr other ↦ subst (λ o. MayWait (thread_in (threads_in o) t)) (sym (apart q other.1)) (v.waits q t)
       ]
 
-  beyond_before : (q k : ℕ) → (counts_in (get after.processes q)).objects < k → (counts_in (get S.processes q)).objects < k
-  beyond_before q k beyond = subst (λ n. n < k) (same_made q) beyond
+  alive : {X : Type 0} (m : FinMap nat_cmp X) (x : X) → ((q : ℕ) → is_some (get m q) ≡ lives (get S.statuses q)) → (q : ℕ)
+      → is_some (get (insert m c x) q) ≡ lives (get (insert S.statuses c Live) q)
+  alive m x same q =
+      elim (eqb_tells q c) [
+        | inl is ↦ subst (λ j. is_some (get (insert m c x) j) ≡ lives (get (insert S.statuses c Live) j)) (sym is.1)
+            (ap is_some (get-insert-same m c x) ∙ sym (ap lives (get-insert-same S.statuses c Live)))
+        | inr other ↦ ap is_some (get-insert-other m c x q other.1) ∙ same q ∙ sym (ap lives (get-insert-other S.statuses c Live q other.1))
+      ]
 
   pub new_process_nearly_valid : IsNearlyValid (put_all (set_table c table ∷ set_process c own ∷ set_status c Live ∷ []) S)
   new_process_nearly_valid = record {
     named = all_named;
     behind = λ o kind e. behind_same S after (λ _. refl) (λ _ h. h) (λ _. refl) (some_inserted S.statuses c Live) kind (v.behind o kind e);
     sole = v.sole;
-    tables = same_keys_inserted S.tables S.statuses c table Live v.tables;
-    owns = same_keys_inserted S.processes S.statuses c own Live v.owns;
-    ended = all_ended;
+    tables = alive S.tables table v.tables;
+    owns = alive S.processes own v.owns;
     numbered = all_numbered;
-    made = λ q k small beyond fits. v.made q k small (beyond_before q k beyond) fits;
-    made_nodes = λ q k small beyond fits. v.made_nodes q k small (beyond_before q k beyond) fits;
-    made_channels = λ q k small beyond fits. v.made_channels q k small (beyond_before q k beyond) fits;
-    born = all_born;
+    made = λ q k small beyond fits. v.made q k small (uncounted_before q k beyond) fits;
+    made_nodes = λ q k small beyond fits. v.made_nodes q k small (uncounted_before q k beyond) fits;
+    made_channels = λ q k small beyond fits. v.made_channels q k small (uncounted_before q k beyond) fits;
+    born = new_born S.statuses S.processes v.born c own next;
     tree = v.tree;
     waits = all_wait;
     channels = v.channels;

@@ -11,9 +11,10 @@ use Rattle.tree_model.specs.Tree.{is_directory_node}
 use Rattle.kernel_model.specs.Laws.{IsNotThere}
 use Rattle.kernel_model.specs.Families.Numbers.{can_number, next_object, new_parts, object_parts}
 use Rattle.kernel_model.specs.State.{State, ProcessState, Part, at_open, at_node, at_names, at_chan, same_part, counts_in, has_part}
-use Rattle.kernel_model.specs.Valid.{IsNearlyValid}
+use Rattle.kernel_model.specs.Valid.{has_ended, IsNearlyValid, IsUncounted}
 use Rattle.kernel_model.proofs.Parts.{has_of_both, same_part_is}
 use Rattle.kernel_model.proofs.Tests.{not_true, either_true}
+use Rattle.kernel_model.proofs.Valids.{owner_lives}
 
 both_hold : (a b : Bool) → (a && b) ≡ true → (a ≡ true) × (b ≡ true)
 both_hold true b h = (refl, h)
@@ -53,13 +54,21 @@ new_part_is p (suc count) own q h =
 
 -- ---- what isn't there
 
-pub next_is_absent : (S : State) (p k : ℕ) → IsNearlyValid S → p < 0xffffffff → 1 ≤ k → (counts_in (get S.processes p)).objects + k < 2 ^ 32
+-- a process that can make some objects has not ended
+has_own : (p count : ℕ) (own : Option ProcessState) → 1 ≤ count → can_number p count own ≡ true → (some : ProcessState) × (own ≡ Some some)
+has_own p zero own some can = absurd (omega (arith, some))
+has_own p (suc count) None some can = absurd (not_true can)
+has_own p (suc count) (Some own) some can = (own, refl)
+
+pub next_is_absent : (S : State) (p k count : ℕ) → IsNearlyValid S → 1 ≤ k → k ≤ count → can_number p count (get S.processes p) ≡ true
     → (get S.opens (next_object p (get S.processes p) k) ≡ None) × (get S.nodes (next_object p (get S.processes p) k) ≡ None)
     × (get S.chans (next_object p (get S.processes p) k) ≡ None)
-next_is_absent S p k v small some fits =
+next_is_absent S p k count v some within can =
     let made : ℕ = (counts_in (get S.processes p)).objects in
-    let beyond : made < made + k = omega (arith, some) in
-    (v.made p (made + k) small beyond fits, v.made_nodes p (made + k) small beyond fits, v.made_channels p (made + k) small beyond fits)
+    let fits = fewer_fit p k count (get S.processes p) some within can in
+    let own = has_own p count (get S.processes p) (omega (arith, some, within)) can in
+    let beyond : IsUncounted S p (made + k) = (ap has_ended (owner_lives S p own.0 v own.1), omega (arith, some)) in
+    (v.made p (made + k) fits.0 beyond fits.1, v.made_nodes p (made + k) fits.0 beyond fits.1, v.made_channels p (made + k) fits.0 beyond fits.1)
 
 absent : {X : Type 0} (o : Option X) → (IsSome o → ⊥) → o ≡ None
 absent None h = refl
@@ -91,7 +100,6 @@ pub parts_are_absent : (S : State) (p count : ℕ) (q : Part) → IsNearlyValid 
     → has_part (new_parts p count (get S.processes p)) q ≡ true → IsNotThere S q
 parts_are_absent S p count q v can h =
     let new = new_part_is p count (get S.processes p) q h in
-    let fits = fewer_fit p new.0 count (get S.processes p) new.1 new.2 can in
-    let none = next_is_absent S p new.0 v fits.0 new.1 fits.1 in
+    let none = next_is_absent S p new.0 count v new.1 new.2 can in
     none_of_new S (next_object p (get S.processes p) new.0) q none.0 none.1
     (no_names S (next_object p (get S.processes p) new.0) v none.1) none.2 new.3

@@ -17,7 +17,7 @@ use Rattle.kernel_model.specs.Outcome.{Outcome, is_parked, replies}
 use Rattle.kernel_model.specs.Proper.{AllCarryOn, IsIn, IsPlain, IsProper, IsUnset, OrWaits, may_send}
 use Rattle.kernel_model.specs.Reply.{refused}
 use Rattle.kernel_model.specs.Sight.{process_parts, behind, reached_by}
-use Rattle.kernel_model.specs.State.{ProcessState, State, Table, Part, Update, at_proc, at_status, at_open, same_part, has_part, part_of, put_all, put_one, set_table, set_process, set_status}
+use Rattle.kernel_model.specs.State.{ProcessState, State, Table, Part, Update, at_proc, at_status, at_open, same_part, has_part, part_of, put_all, put_one, drop_own, set_table, set_process, set_status}
 use Rattle.kernel_model.specs.Step.{tick}
 use Rattle.kernel_model.specs.Valid.{IsNearlyValid}
 use Rattle.kernel_model.specs.View.{View, restrict, whole}
@@ -32,6 +32,7 @@ use Rattle.kernel_model.proofs.Tests.{either_true, not_true, or_true}
 abbrev pub IsOfNoProcess : Update → Type 0
 IsOfNoProcess (set_table p table) = ⊥
 IsOfNoProcess (set_process p own) = ⊥
+IsOfNoProcess (drop_own p) = ⊥
 IsOfNoProcess (set_status p status) = ⊥
 IsOfNoProcess _ = ⊤
 
@@ -41,6 +42,7 @@ AreOfNoProcess us = AllByRecursion IsOfNoProcess us
 one_unset : (u : Update) (q : ℕ) → IsOfNoProcess u → (same_part (part_of u) (at_proc q) ≡ false) × (same_part (part_of u) (at_status q) ≡ false)
 one_unset (set_table p table) q h = absurd h
 one_unset (set_process p own) q h = absurd h
+one_unset (drop_own p) q h = absurd h
 one_unset (set_status p status) q h = absurd h
 one_unset u q h = (refl, refl)
 
@@ -56,6 +58,7 @@ apart_unset (u ∷ us) q h =
 
 one_processes : (u : Update) (S : State) → IsOfNoProcess u → (put_one u S).processes ≡ S.processes
 one_processes (set_process q own) S h = absurd h
+one_processes (drop_own q) S h = absurd h
 one_processes u S h = refl
 
 pub apart_processes : (us : List Update) (S : State) → AreOfNoProcess us → (put_all us S).processes ≡ S.processes
@@ -64,6 +67,7 @@ apart_processes (u ∷ us) S h = apart_processes us (put_one u S) h.1 ∙ one_pr
 
 one_tables : (u : Update) (S : State) → IsOfNoProcess u → (put_one u S).tables ≡ S.tables
 one_tables (set_table p table) S h = absurd h
+one_tables (drop_own p) S h = absurd h
 one_tables u S h = refl
 
 pub apart_tables : (us : List Update) (S : State) → AreOfNoProcess us → (put_all us S).tables ≡ S.tables

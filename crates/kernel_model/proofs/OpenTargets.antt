@@ -62,7 +62,7 @@ use Rattle.kernel_model.proofs.ClockCalls.{drawn_holds}
 use Rattle.kernel_model.proofs.FileCalls.{on_open_of}
 use Rattle.kernel_model.proofs.FileMeanings.{IsOfTree}
 use Rattle.kernel_model.proofs.NameProper.{change_holds}
-use Rattle.kernel_model.proofs.ObjectNumbers.{fewer_fit, next_is_absent}
+use Rattle.kernel_model.proofs.ObjectNumbers.{next_is_absent}
 use Rattle.kernel_model.proofs.Outcomes.{outcome_holds}
 use Rattle.kernel_model.specs.Families.ForkCalls.{child_kind, child_open, listed}
 use Rattle.kernel_model.specs.Families.ProcessCalls.{signal_of}
@@ -206,9 +206,7 @@ module _ (S : State) (p : ℕ) (table : Table) (stat : FdStat) (nearly : IsNearl
   made_keeps : (count : ℕ) (kind : OpenKind) → can_number p (count + 1) (get S.processes p) ≡ true
       → IsKeeping S (set_open (next_object p (get S.processes p) (count + 1)) kind)
   made_keeps count kind can before there =
-      let some : 1 ≤ count + 1 = omega arith in
-      let fits = fewer_fit p (count + 1) (count + 1) (get S.processes p) some (omega arith) can in
-      absurd (none_is_no before (sym (next_is_absent S p (count + 1) nearly fits.0 some fits.1).0 ∙ there))
+      absurd (none_is_no before (sym (next_is_absent S p (count + 1) (count + 1) nearly (omega arith) (omega arith) can).0 ∙ there))
 
   where_can_keeps : (can : Bool) (done refusal : Outcome) → (can ≡ true → AllKeep S done.updates) → AllKeep S refusal.updates
       → AllKeep S (cond can done refusal).updates
@@ -488,13 +486,13 @@ keeps (call.Poll subscriptions) constants S who table nearly =
 keeps (call.ProcExec fd bytes fds) constants S who table nearly =
     exec_at_holds constants.key who.pid who.tid (listed table fds) (whole S) (λ (o : Outcome). AllKeep S o.updates) (λ errno here other. tt) (get table fd)
     (λ x node own is program there. (tt, (tt, tt)))
-keeps (call.ProcExit code) constants S who table nearly = (tt, (tt, (tt, tt)))
+keeps (call.ProcExit code) constants S who table nearly = (tt, (tt, tt))
 keeps (call.ProcFork left) constants S who table nearly =
     fork_holds left who.pid who.tid (get S.processes who.pid) table (lowest_free table) (λ (o : Outcome). AllKeep S o.updates) (λ errno here other. tt)
     (λ fd own free there can.
     (tt, (tt, (tt, (tt, (child_keeps S who.pid own there nearly can.number (child_kind who.pid own), (tt, tt)))))))
 keeps (call.ProcRaise signal) constants S who table nearly =
-    raise_holds (λ (o : Outcome). AllKeep S o.updates) who.pid (get S.processes who.pid) (λ errno here. tt) tt (λ found. (tt, (tt, (tt, tt)))) (signal_of signal)
+    raise_holds (λ (o : Outcome). AllKeep S o.updates) who.pid (λ errno here. tt) tt (λ found. (tt, (tt, tt))) (signal_of signal)
 keeps (call.RandomGet length) constants S who table nearly =
     drawn_holds (λ (o : Outcome). AllKeep S o.updates) constants who.pid (get S.processes who.pid) length tt (λ own _. (tt, tt))
 keeps (call.SockRecv fd length fds flags) constants S who table nearly = receive_at_keeps S who.pid table length fds flags (whole S) (get table fd)
@@ -505,7 +503,7 @@ keeps (call.ThreadCreate attributes) constants S who table nearly =
     made_holds (λ (o : Outcome). AllKeep S o.updates) who.pid who.tid (get S.processes who.pid) tt (λ own _ _. (tt, tt))
 keeps (call.ThreadExit lock word scope) constants S who table nearly =
     left_holds (λ (o : Outcome). AllKeep S o.updates) who.pid who.tid lock word (get S.processes who.pid) tt
-    (λ own new _ _ _. (tt, (tt, (tt, tt)))) (λ own new _ _ _. (tt, tt))
+    (λ own new _ _ _. (tt, (tt, tt))) (λ own new _ _ _. (tt, tt))
 keeps call.ThreadYield constants S who table nearly = tt
 keeps (call.Refused number errno) constants S who table nearly = tt
 keeps (call.Unknown number) constants S who table nearly = tt
@@ -530,4 +528,4 @@ opens_stay constants S who call given T valid (inr lacking) = subst (OpensStay S
 pub ends_keep_opens : EndsKeepOpens
 ends_keep_opens S p status =
     subst (OpensStay S) (sym (end_is S p status))
-    (released_stay S (end_unreleased S p status) (all_kept S (end_updates p (get S.processes p) status) (tick S) (opens_stay_here S) (tt, (tt, (tt, tt)))))
+    (released_stay S (end_unreleased S p status) (all_kept S (end_updates p status) (tick S) (opens_stay_here S) (tt, (tt, tt))))

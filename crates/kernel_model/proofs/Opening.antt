@@ -38,7 +38,7 @@ use Rattle.kernel_model.specs.State.{State, ProcessState, Part, Table, Tree, Upd
 use Rattle.kernel_model.specs.Step.{tick}
 use Rattle.kernel_model.specs.Families.TreeUpdates.{Change, change_updates}
 use Rattle.kernel_model.specs.Fits.{fits, fits_inheriting}
-use Rattle.kernel_model.specs.Valid.{AreSole, HasBehind, IsNamed, IsNearlyValid}
+use Rattle.kernel_model.specs.Valid.{AreSole, HasBehind, IsNamed, IsNearlyValid, IsUncounted}
 use Rattle.kernel_model.specs.View.{View, restrict, whole}
 use Rattle.kernel_model.proofs.Branches.{IsSeen}
 use Rattle.kernel_model.proofs.DescriptorCalls.{met_within}
@@ -347,16 +347,16 @@ module _ (S : State) (p : ℕ) (table : Table) (has_table : get S.tables p ≡ S
   fit = fewer_fit p (new_nodes + 1) (new_nodes + 1) (get S.processes p) (omega arith) (omega arith) can
 
   new_open_absent : get changed.opens new_open ≡ None
-  new_open_absent = ap (λ m. get m new_open) counted_opens ∙ (next_is_absent S p (new_nodes + 1) v fit.0 (omega arith) fit.1).0
+  new_open_absent = ap (λ m. get m new_open) counted_opens ∙ (next_is_absent S p (new_nodes + 1) (new_nodes + 1) v (omega arith) (omega arith) can).0
 
   -- its number is none that a process has yet to make
-  new_open_apart : (q k : ℕ) → q < 0xffffffff → (counts_in (get changed.processes q)).objects < k → k < 2 ^ 32 → object_of q k ≢ new_open
+  new_open_apart : (q k : ℕ) → q < 0xffffffff → IsUncounted changed q k → k < 2 ^ 32 → object_of q k ≢ new_open
   new_open_apart q k small beyond fits is =
       let made : ℕ = (counts_in (get S.processes p)).objects in
       let at = one_object p q (made + (new_nodes + 1)) k is fits fit.1 in
       let number : k ≡ made + (new_nodes + 1) = at.1 in
       let total : (counts_in (get changed.processes p)).objects ≡ made + (new_nodes + 1) = counted_more S p (new_nodes + 1) can in
-      let past : (counts_in (get changed.processes p)).objects < k = subst (λ r. (counts_in (get changed.processes r)).objects < k) at.0 beyond in
+      let past : (counts_in (get changed.processes p)).objects < k = subst (λ r. (counts_in (get changed.processes r)).objects < k) at.0 beyond.1 in
       absurd (omega (arith, number, total, past))
 
   opened_valid : IsNearlyValid (put_one (set_open new_open kind) changed)
@@ -369,9 +369,9 @@ module _ (S : State) (p : ℕ) (table : Table) (has_table : get S.tables p ≡ S
       subst (λ o. IsNamed o (opened_descriptor new_open kind stat)) (sym (get-insert-same changed.opens new_open kind))
       (met_within (fits kind) stat.base.0, met_within (fits_inheriting kind) stat.inheriting.0)
 
-  opening_valid : (stat : FdStat) (fd n : ℕ) (d : Descriptor) → get table n ≡ Some d
+  opening_valid : (stat : FdStat) (fd : ℕ)
       → IsNearlyValid (put_all (opening p (get S.processes p) table stat fd kind new_nodes (change_updates c)).updates S)
-  opening_valid stat fd n d here =
+  opening_valid stat fd =
       let new_table : Table = insert table fd (opened_descriptor new_open kind stat) in
       let us : List Update = process_updates p (new_nodes + 1) (get S.processes p) ++ change_updates c in
       let state : put_all us S ≡ changed = put_counted S p (new_nodes + 1) (next_object p (get S.processes p) 1) new_nodes c can change (λ _. refl) (omega arith) v in
@@ -379,7 +379,7 @@ module _ (S : State) (p : ℕ) (table : Table) (has_table : get S.tables p ≡ S
       (sym (put_last new_open kind p new_table us S (rest_beside p (new_nodes + 1) (get S.processes p) c)
       ∙ ap (λ (T : State). put_one (set_table p new_table) (put_one (set_open new_open kind) T)) state))
       (new_descriptor_nearly_valid (put_one (set_open new_open kind) changed) p table (ap (λ m. get m p) counted_tables ∙ has_table) opened_valid fd
-      (opened_descriptor new_open kind stat) (new_descriptor_named stat) n d here)
+      (opened_descriptor new_open kind stat) (new_descriptor_named stat))
 
 pub walk_well : (oflags flags : ℕ) (path : List ℕ) (now new : ℕ) (t : Tree) (w : Walked) → IsTree t → get t.nodes new ≡ None
     → OpensWell t new (open_walked oflags flags path now new t w)
@@ -402,11 +402,10 @@ open_valid S p table stat oflags mode path now free fd (Some d) there here v =
     open_by p (get S.processes p) table stat (λ (x : Outcome). IsNearlyValid (put_all x.updates S)) (λ reply. v) free
     (opened_from p stat oflags mode path now (get S.processes p) (tree_of S) (get S.opens d.id))
     (λ number kind c new_nodes is can. (
-    let fit = fewer_fit p 1 (new_nodes + 1) (get S.processes p) (omega arith) (omega arith) can in
-    let none = (next_is_absent S p 1 v fit.0 (omega arith) fit.1).1 in
+    let none = (next_is_absent S p 1 (new_nodes + 1) v (omega arith) (omega arith) can).1 in
     let well : OpensWell (tree_of S) new (Opens kind c new_nodes) =
     subst (OpensWell (tree_of S) new) is (walk_well oflags stat.flags path now new (tree_of S) w v.tree none) in
-    opening_valid S p table there v kind c new_nodes can well.1 well.2 stat number fd d here))
+    opening_valid S p table there v kind c new_nodes can well.1 well.2 stat number))
 
 -- ---- file_open
 

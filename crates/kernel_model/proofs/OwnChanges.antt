@@ -3,36 +3,34 @@
 --     set_process_nearly_valid      then a nearly valid state stays so
 use Rattle.std.proofs.Common.{◌≡◌, ◌≢◌, ◌⊎◌, inl, inr, ℕ, ◌≤◌, Option, Some, None, IsSome, is_some, refl, sym, ap, subst, ◌∙◌, arith}
 use Rattle.std.proofs.lemmas.Bool.Decides.{eqb_tells}
-use Rattle.std.specs.Ordering.{nat_cmp}
-use Rattle.std.specs.FinMap.{empty, get, get-empty, insert, remove}
+use Rattle.std.specs.FinMap.{get, insert, remove}
 use Rattle.abi_types.specs.declared.thread.Thread.{Thread}
 use Rattle.abi_types.specs.declared.thread.Thread.TheVariants.{Runnable}
-use Rattle.maps.specs.Maps.{get-insert-same, get-insert-other, get-remove-same, get-remove-other, same_numbers}
+use Rattle.maps.specs.Maps.{get-insert-same, get-insert-other, get-remove-same, get-remove-other}
 use Rattle.tree_model.specs.Entries.{here_or_other}
 use Rattle.kernel_model.specs.Families.Numbers.{made_more}
 use Rattle.kernel_model.specs.OwnChanges.{drawn_more, next_thread, with_next_thread, without_thread}
-use Rattle.kernel_model.specs.State.{State, ProcessState, Threads, counts_in, put_one, set_process, thread_in, thread_of, threads_of}
+use Rattle.kernel_model.specs.State.{State, ProcessState, counts_in, put_one, set_process, thread_in, thread_of}
 use Rattle.kernel_model.specs.Valid.{IsNearlyValid}
 use Rattle.kernel_model.specs.Waits.{MayWait}
 use Rattle.kernel_model.proofs.Children.{one_keeps, KeepsChildren}
 use Rattle.kernel_model.proofs.Tests.{none_is_no, not_true, same_some}
 use Rattle.kernel_model.proofs.Valids.{processes_nearly_valid, some_again, threads_in}
 
--- What a process may become: each of its threads was there, or runs and is numbered; it has none where it had none; it has numbered and
--- made no less, and no fewer children.
+-- What a process may become: each of its threads was there, or runs and is numbered; it has numbered and made no less, and no fewer
+-- children.
 pub record Grows (own new : ProcessState) : Type 0 where
   pub threads : (t : ℕ) (thread : Thread) → get new.threads t ≡ Some thread
       → (get own.threads t ≡ Some thread) ⊎ ((thread ≡ Runnable) × (t ≤ new.counts.threads))
-  pub none : own.threads ≡ empty → new.threads ≡ empty
   pub numbered : own.counts.threads ≤ new.counts.threads
   pub more : own.counts.objects ≤ new.counts.objects
   pub children : KeepsChildren (Some own) (Some new)
 
 pub more_grows : (count : ℕ) (own : ProcessState) → Grows own (made_more count own)
-more_grows count own = record { threads = λ t thread there. inl there; none = λ none. none; numbered = omega arith; more = omega arith; children = (refl, omega arith) }
+more_grows count own = record { threads = λ t thread there. inl there; numbered = omega arith; more = omega arith; children = (refl, omega arith) }
 
 pub drawn_grows : (words : ℕ) (own : ProcessState) → Grows own (drawn_more words own)
-drawn_grows words own = record { threads = λ t thread there. inl there; none = λ none. none; numbered = omega arith; more = omega arith; children = (refl, omega arith) }
+drawn_grows words own = record { threads = λ t thread there. inl there; numbered = omega arith; more = omega arith; children = (refl, omega arith) }
 
 -- a process that has a thread may have one more
 one_more : (own : ProcessState) (t : ℕ) (thread : Thread) → get (with_next_thread own).threads t ≡ Some thread
@@ -49,8 +47,6 @@ one_more own t thread there =
 pub thread_grows : (own : ProcessState) (t : ℕ) → IsSome (get own.threads t) → Grows own (with_next_thread own)
 thread_grows own t there = record {
   threads = one_more own;
-  none = λ none.
-      absurd (not_true (sym (ap is_some (get-empty nat_cmp t)) ∙ sym (ap (λ (m : Threads). is_some (get m t)) none) ∙ there));
   numbered = omega arith;
   more = omega arith;
   children = (refl, omega arith);
@@ -67,20 +63,10 @@ removed_before own t u thread there =
 pub ended_grows : (own : ProcessState) (t : ℕ) → Grows own (without_thread t own)
 ended_grows own t = record {
   threads = λ u thread there. inl (removed_before own t u thread there);
-  none = λ none. ap (λ (m : Threads). remove m t) none ∙ still_empty;
   numbered = omega arith;
   more = omega arith;
   children = (refl, omega arith);
-} where
-  removed_empty : (u : ℕ) → get (remove (empty {X = Thread} {R = nat_cmp}) t) u ≡ get (empty {X = Thread} {R = nat_cmp}) u
-  removed_empty u =
-      elim (eqb_tells u t) [
-        | inl is ↦ ap (get (remove (empty {X = Thread} {R = nat_cmp}) t)) is.1 ∙ get-remove-same (empty {X = Thread}) t ∙ sym (get-empty nat_cmp u)
-        | inr other ↦ get-remove-other (empty {X = Thread}) t u other.1
-      ]
-
-  still_empty : remove (empty {X = Thread} {R = nat_cmp}) t ≡ empty
-  still_empty = same_numbers _ _ removed_empty
+}
 
 -- ---- the state
 
@@ -111,16 +97,6 @@ module _ (S : State) (p : ℕ) (own new : ProcessState) (there : get S.processes
       omega (arith, is, was, grows.more))
       (λ apart. let same : (counts_in (get after.processes q)).objects ≡ (counts_in (get S.processes q)).objects =
       ap (λ o. (counts_in o).objects) (other q apart) in omega (arith, same))
-
-  -- a process without threads has none still
-  still_bare : (q : ℕ) → threads_of S q ≡ Some empty → threads_of after q ≡ Some empty
-  still_bare q bare =
-      elim (eqb_tells q p) [
-        | inl is ↦ subst (λ k. threads_of after k ≡ Some empty) (sym is.1)
-            (ap threads_in here
-            ∙ ap Some (grows.none (same_some own.threads empty (sym (ap threads_in there) ∙ subst (λ k. threads_of S k ≡ Some empty) is.1 bare))))
-        | inr apart ↦ ap threads_in (other q apart.1) ∙ bare
-      ]
 
   -- each thread was there, or it runs and is numbered
   thread_before : (q t : ℕ) (thread : Thread) → thread_of after q t ≡ Some thread
@@ -165,7 +141,6 @@ module _ (S : State) (p : ℕ) (own new : ProcessState) (there : get S.processes
       processes_nearly_valid S (insert S.processes p new)
       (record {
         there = λ q. some_again S.processes p own new q there;
-        bare = still_bare;
         numbered = λ q t now. numbered_by v q t (thread_of after q t) refl now;
         waits = λ q t. waits_by v q t (thread_of after q t) refl;
         more = more_made;

@@ -4,7 +4,7 @@ use Rattle.std.proofs.Common.{◌≡◌, ◌≢◌, ◌⊎◌, inl, inr, ℕ, su
 use Rattle.std.proofs.lemmas.Bool.{eq-eqb, eqb-true}
 use Rattle.std.proofs.lemmas.Bool.Decides.{eqb_tells}
 use Rattle.std.specs.Ordering.{nat_cmp}
-use Rattle.std.specs.FinMap.{FinMap, empty, get, get-empty, insert}
+use Rattle.std.specs.FinMap.{FinMap, get, insert}
 use Rattle.std.specs.Option.{option_map}
 use Rattle.abi_base.specs.declared.errno.Errno.{Errno}
 use Rattle.abi_base.specs.declared.errno.Errno.TheVariants.{Again, Mfile, Notsup}
@@ -13,8 +13,6 @@ use Rattle.abi_types.specs.declared.descriptor.Descriptor.{Descriptor}
 use Rattle.abi_types.specs.declared.open_kind.OpenKind.{OpenKind}
 use Rattle.abi_types.specs.declared.open_kind.OpenKind.TheVariants.{End}
 use Rattle.abi_types.specs.declared.reply.Answer.TheVariants as answer
-use Rattle.abi_types.specs.declared.status.Status.{Status}
-use Rattle.abi_types.specs.declared.status.Status.TheVariants.{Live}
 use Rattle.maps.specs.Maps.{get-insert-same, get-insert-other}
 use Rattle.std.specs.List.{AllByRecursion}
 use Rattle.kernel_model.proofs.ChannelChanges.{new_carries}
@@ -29,16 +27,16 @@ use Rattle.kernel_model.specs.Proper.{IsIn, IsPlain, IsProper, IsUnset, AllCarry
 use Rattle.kernel_model.specs.Reply.{refused, success}
 use Rattle.kernel_model.specs.Release.{is_reader, is_writer}
 use Rattle.kernel_model.specs.Sight.{process_parts}
-use Rattle.kernel_model.specs.State.{State, ProcessState, Table, Threads, Part, Update, at_chan, at_clock, at_node, at_names, at_open, at_proc, at_status, counts_in, has_part, part_of, put_all, put_one, same_part, set_process, set_table}
-use Rattle.kernel_model.specs.Valid.{IsJoined, IsNamed, IsNearlyValid}
+use Rattle.kernel_model.specs.State.{State, ProcessState, Table, Part, Update, at_chan, at_clock, at_node, at_names, at_open, at_proc, at_status, counts_in, has_part, part_of, put_all, put_one, same_part, set_process, set_table}
+use Rattle.kernel_model.specs.Valid.{IsJoined, IsNamed, IsNearlyValid, IsUncounted}
 use Rattle.kernel_model.proofs.ObjectNumbers.{numbers_fit}
 use Rattle.kernel_model.proofs.OwnChanges.{more_grows, set_process_nearly_valid}
 use Rattle.kernel_model.proofs.Pairs.{ends_nearly_valid}
 use Rattle.kernel_model.proofs.Parts.{beyond_process, number_apart, of_first, of_second, outside_cons, own_stays}
 use Rattle.kernel_model.proofs.Sights.{first_seen}
-use Rattle.kernel_model.proofs.Tests.{none_is_no, not_true, same_some}
+use Rattle.kernel_model.proofs.Tests.{none_is_no, not_true}
 use Rattle.kernel_model.proofs.TreeUpdates.{one_object}
-use Rattle.kernel_model.proofs.Valids.{same_value, table_nearly_valid}
+use Rattle.kernel_model.proofs.Valids.{owner_makes, same_value, table_nearly_valid}
 
 -- ---- each outcome
 
@@ -166,19 +164,18 @@ module _ (S : State) (p : ℕ) (own : ProcessState) (there : get S.processes p �
 
   pub absent : (k : ℕ) → 1 ≤ k → k ≤ suc n → (get S.opens (number k) ≡ None) × (get S.chans (number k) ≡ None)
   absent k some within =
-      let beyond : (counts_in (get S.processes p)).objects < own.counts.objects + k =
-      subst (λ o. (counts_in o).objects < own.counts.objects + k) (sym there) (omega (arith, some)) in
+      let beyond : IsUncounted S p (own.counts.objects + k) = owner_makes S p (own.counts.objects + k) own v there (omega (arith, some)) in
       let fits = fit.1 in
       let small : own.counts.objects + k < 2 ^ 32 = omega (arith, within, fits) in
       (v.made p (own.counts.objects + k) fit.0 beyond small, v.made_channels p (own.counts.objects + k) fit.0 beyond small)
 
-  unmade : (q k j : ℕ) → (counts_in (get counted_state.processes q)).objects < k → k < 2 ^ 32 → 1 ≤ j → j ≤ suc n → object_of q k ≢ number j
+  unmade : (q k j : ℕ) → IsUncounted counted_state q k → k < 2 ^ 32 → 1 ≤ j → j ≤ suc n → object_of q k ≢ number j
   unmade q k j beyond fits some within is =
       let all = fit.1 in
       let at = one_object p q (own.counts.objects + j) k is fits (omega (arith, within, all)) in
       let total : (counts_in (get counted_state.processes p)).objects ≡ own.counts.objects + suc n =
       ap (λ o. (counts_in o).objects) (get-insert-same S.processes p (made_more (suc n) own)) in
-      let past : (counts_in (get counted_state.processes p)).objects < k = subst (λ r. (counts_in (get counted_state.processes r)).objects < k) at.0 beyond in
+      let past : (counts_in (get counted_state.processes p)).objects < k = subst (λ r. (counts_in (get counted_state.processes r)).objects < k) at.0 beyond.1 in
       let same : k ≡ own.counts.objects + j = at.1 in
       omega (arith, same, total, past, within)
 
@@ -232,20 +229,11 @@ module _ (T : State) (valid : IsNearlyValid T) (p : ℕ) (table : Table) (has_ta
         | inr other ↦ others n y (sym (get-insert-other m number x n other.1) ∙ at)
       ]
 
-  two_more_valid : ((status : Status) → get T.statuses p ≡ Some status → status ≢ Live → ⊥)
-      → IsNearlyValid (put_one (set_table p (insert (insert table first d) second e)) T)
-  two_more_valid lives =
-      table_nearly_valid T p table (insert (insert table first d) second e) has_table lives
+  two_more_valid : IsNearlyValid (put_one (set_table p (insert (insert table first d) second e)) T)
+  two_more_valid =
+      table_nearly_valid T p table (insert (insert table first d) second e) has_table
       (inserted_named (insert table first d) second e e_named
       (inserted_named table first d d_named (λ n y at. valid.named p n table y has_table at))) valid
-
--- a process with a thread lives
-pub thread_lives : (S : State) (p t : ℕ) (own : ProcessState) → get S.processes p ≡ Some own → is_some (get own.threads t) ≡ true → IsNearlyValid S → (status : Status)
-    → get S.statuses p ≡ Some status → status ≢ Live → ⊥
-thread_lives S p t own there some v status is ends =
-    let bare : own.threads ≡ empty =
-    same_some own.threads empty (sym (ap (option_map (λ (x : ProcessState). x.threads)) there) ∙ (v.ended p status is ends).1) in
-    not_true (sym (ap is_some (get-empty nat_cmp t)) ∙ ap (λ (m : Threads). is_some (get m t)) (sym bare) ∙ some)
 
 open_is_not_gone : Open ≢ Gone
 open_is_not_gone e = cc
@@ -332,7 +320,7 @@ module _ (S : State) (p t : ℕ) (own : ProcessState) (there : get S.processes p
         two_more_valid (record (counted_state S p own there v 2 can) { opens = pipe_opens; chans = pipe_chans }) pipe_ends p table has_table first second
         (end_descriptor pipe_first pipe_reader) (end_descriptor pipe_second pipe_writer)
         (subst (λ o. IsNamed o (end_descriptor pipe_first pipe_reader)) (sym reader_at) (refl, refl))
-        (subst (λ o. IsNamed o (end_descriptor pipe_second pipe_writer)) (sym writer_at) (refl, refl)) (thread_lives S p t own there some v)
+        (subst (λ o. IsNamed o (end_descriptor pipe_second pipe_writer)) (sym writer_at) (refl, refl))
 
   module _ (can : can_number p 4 (Some own) ≡ true) where
     abbrev one : ℕ
@@ -446,7 +434,7 @@ module _ (S : State) (p t : ℕ) (own : ProcessState) (there : get S.processes p
     pair_valid first second =
         two_more_valid (record (counted_state S p own there v 3 can) { opens = pair_opens; chans = pair_chans }) pair_ends p table has_table first second
         (end_descriptor three left_end) (end_descriptor four right_end) (subst (λ o. IsNamed o (end_descriptor three left_end)) (sym left_at) (refl, refl))
-        (subst (λ o. IsNamed o (end_descriptor four right_end)) (sym right_at) (refl, refl)) (thread_lives S p t own there some v)
+        (subst (λ o. IsNamed o (end_descriptor four right_end)) (sym right_at) (refl, refl))
 
   creates_valid : (made : Pair) (first second : ℕ) → can_number p (count_of made) (Some own) ≡ true
       → IsNearlyValid (put_all (create_updates made p (Some own) table first second) S)

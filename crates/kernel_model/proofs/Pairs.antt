@@ -13,8 +13,8 @@ use Rattle.maps.specs.Maps.{get-insert-same, get-insert-other}
 use Rattle.kernel_model.specs.Channels.{Channel}
 use Rattle.kernel_model.specs.Families.Numbers.{object_of}
 use Rattle.kernel_model.specs.Release.{is_of_process, is_reader, is_writer}
-use Rattle.kernel_model.specs.State.{State, counts_in}
-use Rattle.kernel_model.specs.Valid.{AreSole, AtMostOne, HasBehind, HasReader, HasWriter, IsJoined, IsNamed, IsNearlyValid}
+use Rattle.kernel_model.specs.State.{State}
+use Rattle.kernel_model.specs.Valid.{AreSole, AtMostOne, HasBehind, HasReader, HasWriter, IsJoined, IsNamed, IsNearlyValid, IsUncounted}
 use Rattle.kernel_model.proofs.Channels.{KeepsEnds, opens_joined}
 use Rattle.kernel_model.proofs.Tests.{not_true}
 use Rattle.kernel_model.proofs.Valids.{same_value}
@@ -127,7 +127,7 @@ module _ (S : State) (v : IsNearlyValid S) (chans : FinMap nat_cmp Channel) (a b
 
   pub ends_nearly_valid : HasBehind with_ends first → HasBehind with_ends second → IsFirst S.opens first → IsFirst (insert S.opens a first) second
       → ((c : ℕ) (channel : Channel) → get chans c ≡ Some channel → (get S.chans c ≡ Some channel) ⊎ IsJoined both_opens c channel)
-      → ((p k : ℕ) → p < 0xffffffff → (counts_in (get S.processes p)).objects < k → k < 2 ^ 32
+      → ((p k : ℕ) → p < 0xffffffff → IsUncounted S p k → k < 2 ^ 32
       → (object_of p k ≢ a) × (object_of p k ≢ b) × (get chans (object_of p k) ≡ None))
       → IsNearlyValid with_ends
   ends_nearly_valid one two first_of second_of joined unmade = record {
@@ -136,7 +136,6 @@ module _ (S : State) (v : IsNearlyValid S) (chans : FinMap nat_cmp Channel) (a b
     sole = first_sole (insert S.opens a first) b second second_of (first_sole S.opens a first first_of v.sole);
     tables = v.tables;
     owns = v.owns;
-    ended = v.ended;
     numbered = v.numbered;
     made = λ p k small beyond fits.
         let none = unmade p k small beyond fits in

@@ -4,13 +4,13 @@ use Rattle.std.proofs.lemmas.Bool.Decides.{eqb_tells}
 use Rattle.std.specs.Ordering.{nat_cmp}
 use Rattle.std.specs.Option.{option_map}
 use Rattle.std.specs.Prelude.{◌+◌}
-use Rattle.std.specs.FinMap.{FinMap, get, insert}
-use Rattle.maps.specs.Maps.{get-insert-same, get-insert-other}
+use Rattle.std.specs.FinMap.{FinMap, get, insert, remove}
+use Rattle.maps.specs.Maps.{get-insert-same, get-insert-other, get-remove-same, get-remove-other}
 use Rattle.kernel_model.specs.Families.Numbers.{made_more}
 use Rattle.kernel_model.specs.Outcome.{Outcome}
 use Rattle.kernel_model.specs.OwnChanges.{IsChangedBy}
 use Rattle.kernel_model.specs.Sight.{process_parts}
-use Rattle.kernel_model.specs.State.{State, Part, at_clock, at_proc, at_status, at_open, at_node, at_names, at_term, at_chan, same_part, has_part, Agree, AgreeOn, Update, set_table, set_process, set_status, set_open, set_node, set_names, set_term, set_chan, part_of, put_one, put_all, ProcessState}
+use Rattle.kernel_model.specs.State.{State, Part, at_clock, at_proc, at_status, at_open, at_node, at_names, at_term, at_chan, same_part, has_part, Agree, AgreeOn, Update, set_table, set_process, drop_own, set_status, set_open, set_node, set_names, set_term, set_chan, part_of, put_one, put_all, ProcessState}
 use Rattle.kernel_model.proofs.Tests.{not_true, either_false, either_true, or_true}
 
 -- ---- lists of parts
@@ -94,6 +94,8 @@ agree_at S T (part ∷ parts) q all h =
 pub put_one_keeps : (u : Update) (S : State) (q : Part) → same_part (part_of u) q ≡ false → Agree (put_one u S) S q
 put_one_keeps (set_table p t) S (at_proc q) h = (get-insert-other S.tables p t q (other_number p q h), refl)
 put_one_keeps (set_process p own) S (at_proc q) h = (refl, get-insert-other S.processes p own q (other_number p q h))
+put_one_keeps (drop_own p) S (at_proc q) h =
+    (get-remove-other S.tables p q (other_number p q h), get-remove-other S.processes p q (other_number p q h))
 put_one_keeps (set_status p s) S (at_status q) h = get-insert-other S.statuses p s q (other_number p q h)
 put_one_keeps (set_open o kind) S (at_open r) h = get-insert-other S.opens o kind r (other_number o r h)
 put_one_keeps (set_node n node) S (at_node m) h = get-insert-other S.nodes n node m (other_number n m h)
@@ -116,9 +118,17 @@ insert_alike m n k x q e =
       | inr other ↦ get-insert-other m k x q other.1 ∙ e ∙ sym (get-insert-other n k x q other.1)
     ]
 
+remove_alike : {X : Type 0} (m n : FinMap nat_cmp X) (k q : ℕ) → get m q ≡ get n q → get (remove m k) q ≡ get (remove n k) q
+remove_alike m n k q e =
+    elim (eqb_tells q k) [
+      | inl is ↦ subst (λ j. get (remove m k) j ≡ get (remove n k) j) (sym is.1) (get-remove-same m k ∙ sym (get-remove-same n k))
+      | inr other ↦ get-remove-other m k q other.1 ∙ e ∙ sym (get-remove-other n k q other.1)
+    ]
+
 pub put_one_same : (u : Update) (S T : State) (q : Part) → Agree S T q → Agree (put_one u S) (put_one u T) q
 put_one_same (set_table p t) S T (at_proc q) h = (insert_alike S.tables T.tables p t q h.0, h.1)
 put_one_same (set_process p own) S T (at_proc q) h = (h.0, insert_alike S.processes T.processes p own q h.1)
+put_one_same (drop_own p) S T (at_proc q) h = (remove_alike S.tables T.tables p q h.0, remove_alike S.processes T.processes p q h.1)
 put_one_same (set_status p s) S T (at_status q) h = insert_alike S.statuses T.statuses p s q h
 put_one_same (set_open o kind) S T (at_open r) h = insert_alike S.opens T.opens o kind r h
 put_one_same (set_node n node) S T (at_node m) h = insert_alike S.nodes T.nodes n node m h

@@ -37,7 +37,7 @@ use Rattle.kernel_model.proofs.ChannelChanges.{coming_all, drawn_carries, drawn_
 use Rattle.kernel_model.proofs.OpenMeanings.{AreOfNoProcess, OpensWell, SeesWell, apart_processes, apart_unset, by_open_is_proper, patient_descriptor, plain_descriptor, reads_descriptor, seen_descriptor}
 use Rattle.kernel_model.proofs.Parts.{beyond_process, has_left, has_right, number_apart, outside_cons, own_same}
 use Rattle.kernel_model.proofs.Tests.{none_is_no, not_true, same_some}
-use Rattle.kernel_model.proofs.Valids.{holder_lives, same_value, table_nearly_valid}
+use Rattle.kernel_model.proofs.Valids.{same_value, table_nearly_valid}
 
 -- ---- sock_send
 
@@ -371,7 +371,7 @@ module _ (p : ℕ) (table : Table) (n room flags : ℕ) where
       let taken : IsNearlyValid (put_one (set_chan c (pull n channel).rest) S) =
       set_chan_nearly_valid S c channel (pull n channel).rest there (λ h. h) (λ h. h)
       (drawn_joined S.opens c channel (min n (reach channel.waiting)) (v.channels c channel there)) v in
-      table_nearly_valid (put_one (set_chan c (pull n channel).rest) S) p table installed.table own (holder_lives S p fd table d own at v)
+      table_nearly_valid (put_one (set_chan c (pull n channel).rest) S) p table installed.table own
       (install_all named (take room (pull n channel).carried) table installed made (λ m x here. v.named p m table x own here)
       (all_taken named room (pull n channel).carried (coming_all named channel.waiting (min n (reach channel.waiting)) (v.channels c channel there).carried)))
       taken) where

@@ -11,6 +11,7 @@ use Rattle.abi_base.specs.declared.grant.Grant.{Grant}
 use Rattle.abi_base.specs.declared.grant.GrantTarget.{GrantTarget}
 use Rattle.abi_base.specs.declared.grant.GrantTarget.TheVariants as target
 use Rattle.abi_types.specs.declared.open_kind.OpenKind.{OpenKind}
+use Rattle.abi_types.specs.declared.status.Status.{Status}
 use Rattle.abi_types.specs.declared.status.Status.TheVariants.{Live}
 use Rattle.abi_types.specs.declared.stream.Stream.{Stream}
 use Rattle.abi_types.specs.declared.constants.Constants.{Constants}
@@ -21,19 +22,20 @@ use Rattle.abi_types.specs.declared.node.Node.{Node}
 use Rattle.abi_types.specs.declared.node.NodeKind.TheVariants as node_kind
 use Rattle.abi_types.specs.declared.open_kind.OpenKind.TheVariants as kind
 use Rattle.tree_model.specs.Tree.{is_directory_kind, is_directory_node}
-use Rattle.kernel_model.specs.Release.{holders, is_channel_kept, is_of_process, is_reader, is_writer}
+use Rattle.kernel_model.specs.Release.{holders, is_channel_kept, is_of_process, is_reader, is_writer, lives}
 use Rattle.tree_model.specs.Changes.{is_file_kind, is_file_node}
 use Rattle.tree_model.specs.declared.limits.TheConstants.{ROOT}
 use Rattle.tree_model.specs.Grants.{IsStartTree, IsGrant, IsGrantOf, AreGrants, HasRightsOfType, MayBegin, type_of_kind, type_of_node}
 use Rattle.kernel_model.specs.Start.{first_open, numbered, granted_descriptor, open_of, open_of_node, granted_open, granted_table, first_process, unwritten, start_state}
 use Rattle.kernel_model.specs.State.{State, Table, ProcessState, Tree, thread_in, thread_of, counts_in}
-use Rattle.kernel_model.specs.Families.Children.{IsBorn}
+use Rattle.kernel_model.specs.Families.Children.{child_of, AreBorn, IsBorn}
 use Rattle.kernel_model.specs.Families.Numbers.{object_of}
 use Rattle.kernel_model.specs.Fits.{HasRightsOf}
 use Rattle.kernel_model.specs.Valid.{AreSole, AtMostOne, IsNamed, HasBehind, IsValid}
 use Rattle.kernel_model.specs.Waits.{MayWait, HasDeadline, HasDeadlines}
 use Rattle.kernel_model.proofs.Tests.{none_is_no, not_true}
-use Rattle.kernel_model.proofs.Valids.{same_value, held_or_carried, named_is_held, named_is_kept, same_keys_inserted}
+use Rattle.kernel_model.proofs.Valids.{same_value, held_or_carried, named_is_held, named_is_kept}
+use Rattle.kernel_model.proofs.ChildLaws.{not_first}
 
 -- ---- numbered values
 
@@ -334,14 +336,32 @@ start_nodes tree starts p k small fits =
     ] refl
 
 -- process 0 is the one process
-start_born : (p : ℕ) (own : ProcessState) → get (insert (empty {R = nat_cmp}) 0 first_process) p ≡ Some own
-    → IsBorn (insert (empty {R = nat_cmp}) 0 first_process) p own.depth
-start_born p own there =
-    let is = only_one first_process own p there in
-    inl (is.0, ap (λ (x : ProcessState). x.depth) (sym is.1))
+abbrev first_status : FinMap nat_cmp Status
+first_status = insert empty 0 Live
 
-same_keys_one : {X Y : Type 0} (x : X) (y : Y) (p : ℕ) → is_some (get (insert (empty {R = nat_cmp}) 0 x) p) ≡ is_some (get (insert (empty {R = nat_cmp}) 0 y) p)
-same_keys_one x y = same_keys_inserted empty empty 0 x y (λ q. ap is_some (get-empty nat_cmp q) ∙ sym (ap is_some (get-empty nat_cmp q)))
+some_is_first : (p : ℕ) → IsSome (get first_status p) → p ≡ 0
+some_is_first p there =
+    elim (eqb_tells p 0) [
+      | inl is ↦ is.1
+      | inr other ↦ absurd (not_true (sym (ap is_some (get-insert-other empty 0 Live p other.1 ∙ get-empty nat_cmp p)) ∙ there))
+    ]
+
+start_born : AreBorn first_status (insert (empty {R = nat_cmp}) 0 first_process)
+start_born = record {
+  made = λ p there. (0, some_is_first p there);
+  deep = λ p own there.
+      let is = only_one first_process own p there in subst (λ (x : ProcessState). IsBorn first_status x.depth p) is.1 is.0;
+  counted = λ p i own there may some. absurd (not_first own.depth p i may (some_is_first (child_of p own.depth i) some));
+}
+
+one_lives : {X : Type 0} (x : X) (p : ℕ) → is_some (get (insert (empty {R = nat_cmp}) 0 x) p) ≡ lives (get first_status p)
+one_lives x p =
+    elim (eqb_tells p 0) [
+      | inl is ↦ subst (λ j. is_some (get (insert (empty {R = nat_cmp}) 0 x) j) ≡ lives (get first_status j)) (sym is.1)
+          (ap is_some (get-insert-same (empty {R = nat_cmp}) 0 x) ∙ sym (ap lives (get-insert-same (empty {R = nat_cmp}) 0 Live)))
+      | inr other ↦ ap is_some (get-insert-other (empty {R = nat_cmp}) 0 x p other.1 ∙ get-empty nat_cmp p)
+          ∙ sym (ap lives (get-insert-other (empty {R = nat_cmp}) 0 Live p other.1 ∙ get-empty nat_cmp p))
+    ]
 
 pub start_valid : (tree : Tree) (grants : List Grant) (stdin : List ℕ) → MayBegin tree grants → IsValid (start_state tree grants stdin)
 start_valid tree grants stdin begins = record {
@@ -349,9 +369,8 @@ start_valid tree grants stdin begins = record {
     named = start_named tree grants begins.grants;
     behind = start_behind tree grants stdin begins.grants;
     sole = start_sole tree grants begins.grants;
-    tables = same_keys_one _ _;
-    owns = same_keys_one _ _;
-    ended = λ p status there ends. absurd (ends (sym (only_one Live status p there).1));
+    tables = one_lives (granted_table tree grants);
+    owns = one_lives first_process;
     numbered = start_numbered tree grants stdin;
     waits = start_waits tree grants stdin;
     made = λ p k small beyond fits. start_made tree grants begins.grants p k small fits;

@@ -4,7 +4,6 @@ use Rattle.std.specs.Prelude.{if◌then◌else◌}
 use Rattle.std.proofs.Common.{◌≡◌, ◌≢◌, inl, inr, ℕ, ◌+◌, Bool, false, Option, None, List, [], ◌∷◌, map, true, Some, IsSome, is_some, ◌⊎◌, refl, sym, ap, subst, ◌∙◌}
 use Rattle.std.proofs.lemmas.Bool.Decides.{eqb_tells}
 use Rattle.std.specs.Ordering.{nat_cmp}
-use Rattle.std.specs.Option.{option_map}
 use Rattle.std.specs.FinMap.{FinMap, get, get-empty, empty, insert}
 use Rattle.abi_base.specs.declared.errno.Errno.{Errno}
 use Rattle.abi_base.specs.declared.errno.Errno.TheVariants.{Nomem, Success}
@@ -17,7 +16,7 @@ use Rattle.abi_types.specs.declared.status.Status.{Status}
 use Rattle.abi_types.specs.declared.status.Status.TheVariants.{Live}
 use Rattle.abi_types.specs.declared.thread.Thread.TheVariants.{Runnable}
 use Rattle.abi_types.specs.declared.who.Who.{Who}
-use Rattle.maps.specs.Maps.{get-insert-same, get-insert-other}
+use Rattle.maps.specs.Maps.{get-insert-same, get-insert-other, get-remove-same}
 use Rattle.kernel_model.specs.Laws.{HasSameProcess, IsKilled, MovesOnly, EndsOnly}
 use Rattle.kernel_model.specs.Calls.{meaning_of}
 use Rattle.kernel_model.specs.Families.DescriptorCalls.{lowest_free}
@@ -25,11 +24,11 @@ use Rattle.kernel_model.specs.Families.ForkCalls.{child_number, child_process, f
 use Rattle.kernel_model.specs.Families.Numbers.{made_more}
 use Rattle.kernel_model.specs.Outcome.{Outcome, is_parked}
 use Rattle.kernel_model.specs.OwnChanges.{born_of, next_child, own_by, with_next_child, AllowsChange, IsChangedBy, LeavesOwn}
-use Rattle.kernel_model.specs.Families.ProcessCalls.{ended_process, end_updates}
+use Rattle.kernel_model.specs.Families.ProcessCalls.{end_updates}
 use Rattle.kernel_model.specs.Proper.{IsUnset}
 use Rattle.kernel_model.specs.Reply.{refused}
-use Rattle.kernel_model.specs.Release.{ends, is_killed, process_left, release, status_left}
-use Rattle.kernel_model.specs.State.{State, Table, ProcessState, Update, set_table, set_status, at_proc, at_status, has_part, part_of, put_one, put_all, counts_in, thread_in, threads_of}
+use Rattle.kernel_model.specs.Release.{ends, is_killed, own_left, release, status_left}
+use Rattle.kernel_model.specs.State.{State, ProcessState, Update, set_table, set_status, at_proc, at_status, has_part, part_of, put_one, put_all, counts_in, thread_in, threads_of}
 use Rattle.kernel_model.specs.Step.{tick, outcome, unreleased, step_answer, step_state, IsStep, end_unreleased, end_state}
 use Rattle.kernel_model.specs.Threads.{BearsRunning, LeavesCounts, LeavesThreads, child_made, child_told, is_done, is_success}
 use Rattle.kernel_model.specs.Valid.{IsNearlyValid, IsValid}
@@ -37,7 +36,7 @@ use Rattle.kernel_model.specs.View.{whole}
 use Rattle.kernel_model.specs.Waits.{waiting}
 use Rattle.kernel_model.proofs.Calls.{proper}
 use Rattle.kernel_model.proofs.Births.{fork_holds, next_is}
-use Rattle.kernel_model.proofs.Ends.{killed_by, process_after, process_spared, status_after, status_spared}
+use Rattle.kernel_model.proofs.Ends.{killed_by, process_after, process_spared, status_after, status_spared, table_spared}
 use Rattle.kernel_model.proofs.Outcomes.{outcome_holds}
 use Rattle.kernel_model.proofs.Parking.{parks_only, sets_apart, waiting_may}
 use Rattle.kernel_model.proofs.Parts.{put_keeps}
@@ -47,8 +46,8 @@ use Rattle.kernel_model.proofs.Tests.{none_is_no, not_true, same_some}
 use Rattle.kernel_model.proofs.Threading.{waits_apart, waits_if_holds, waits_if_same, with_counts, with_nearly_valid}
 use Rattle.kernel_model.proofs.Threads.{IsOwnAfter, child_is, leaves_counts, leaves_threads, refusal_bears, refusal_of_fails, undone_allows, undone_stays}
 use Rattle.kernel_model.proofs.Touches.{killed_is_not_live, live_spared, release_ends, release_keeps}
-use Rattle.kernel_model.proofs.EndedValid.{counts_stay, end_nearly_valid}
-use Rattle.kernel_model.proofs.Valids.{left_counts, release_restores, some_mapped, tick_nearly_valid, tick_valid}
+use Rattle.kernel_model.proofs.EndedValid.{end_nearly_valid}
+use Rattle.kernel_model.proofs.Valids.{release_restores, some_mapped, threads_in, tick_nearly_valid, tick_valid}
 
 -- ---- valid states
 
@@ -77,9 +76,9 @@ pub step_keeps_valid : (constants : Constants) (S : State) (who : Who) (call : C
 step_keeps_valid constants S who call given T (inl done) v = subst IsValid (sym done.1) (step_valid constants S who call v)
 step_keeps_valid constants S who call given T (inr lacking) v = subst IsValid (sym lacking.2) (tick_valid S v)
 
-pub end_valid : (S : State) (p : ℕ) (status : Status) → IsSome (get S.statuses p) → IsValid S → IsValid (end_state S p status)
+pub end_valid : (S : State) (p : ℕ) (status : Status) → IsSome (get S.statuses p) → status ≢ Live → IsValid S → IsValid (end_state S p status)
 unfolding end_state
-end_valid S p status made v = release_restores (end_unreleased S p status) (end_nearly_valid (tick S) p status made (tick_nearly_valid S v.nearly))
+end_valid S p status made dead v = release_restores (end_unreleased S p status) (end_nearly_valid (tick S) p status dead made (tick_nearly_valid S v.nearly))
 
 -- ---- the clock
 
@@ -121,13 +120,7 @@ release_others U q =
 others_from : (S U T : State) (q : ℕ) → HasSameProcess U S q → HasSameProcess T U q ⊎ IsKilled U T q → HasSameProcess T S q ⊎ IsKilled S T q
 others_from S U T q same (inl kept) = inl (kept.0 ∙ same.0, kept.1 ∙ same.1, kept.2 ∙ same.2)
 others_from S U T q same (inr killed) =
-    inr (
-      (
-        killed.0.0 ∙ ap (option_map (λ (table : Table). empty)) same.0,
-        killed.0.1 ∙ ap (option_map (λ (own : ProcessState). ended_process (Some own))) same.1,
-      ),
-      (sym same.2 ∙ killed.1.0, killed.1.1),
-    )
+    inr (killed.0, (sym same.2 ∙ killed.1.0, killed.1.1))
 
 -- the child of a call that was answered so is not this process
 abbrev IsUnborn : State → Who → Call → Answer → ℕ → Type 0
@@ -240,8 +233,9 @@ fork_tells_child constants S who call given T (inr lacking) =
     subst (λ a. child_told call a ≡ child_made call a who.pid (get S.processes who.pid)) (sym lacking.1) (lacking_tells S who call)
 
 runs_or_none : (killed : Bool) (t u : ℕ) (own : ProcessState)
-    → (get (process_left killed (child_process t own)).threads u ≡ None) ⊎ (get (process_left killed (child_process t own)).threads u ≡ Some Runnable)
-runs_or_none true t u own = inl (get-empty nat_cmp u)
+    → (thread_in (threads_in (own_left killed (Some (child_process t own)))) u ≡ None)
+    ⊎ (thread_in (threads_in (own_left killed (Some (child_process t own)))) u ≡ Some Runnable)
+runs_or_none true t u own = inl refl
 runs_or_none false t u own =
     elim (eqb_tells u t) [
       | inl is ↦ inr (ap (get (insert empty t Runnable)) is.1 ∙ get-insert-same empty t Runnable)
@@ -255,8 +249,8 @@ born_runs constants S who (call.ProcFork left) q born t =
     let U = unreleased constants S who c in
     let new = waits_if_holds (IsNewborn who.tid q) a who (waiting constants c who (S.clock + 1000)) (put_all (outcome constants S who c).updates (tick S))
     (λ parked. absurd (parked_bears a who.pid (get S.processes who.pid) q parked born)) (fork_bears constants S who left q born) in
-    let after = process_after U (ends U) q ∙ ap (option_map (process_left (is_killed U (ends U) q))) new.1 in
-    let at = ap (λ (o : Option ProcessState). thread_in (option_map (λ (own : ProcessState). own.threads) o) t) after in
+    let after = process_after U (ends U) q ∙ ap (own_left (is_killed U (ends U) q)) new.1 in
+    let at = ap (λ o. thread_in (threads_in o) t) after in
     elim (runs_or_none (is_killed U (ends U) q) who.tid t new.0) [ inl none ↦ inl (at ∙ none) | inr runs ↦ inr (at ∙ runs) ] where
       parked_bears : (given : Answer) (p : ℕ) (own : Option ProcessState) (q : ℕ) → is_parked given ≡ true
           → child_made (call.ProcFork left) given p own ≡ Some q → ⊥
@@ -310,7 +304,7 @@ step_keeps_made constants S who call given T q (inr lacking) made = subst (λ U.
 
 pub end_keeps_made : (S : State) (p : ℕ) (status : Status) (q : ℕ) → IsSome (get S.statuses q) → IsSome (get (end_state S p status).statuses q)
 unfolding end_state
-end_keeps_made S p status q made = release_made (end_unreleased S p status) q (put_made (end_updates p (get S.processes p) status) (tick S) q made)
+end_keeps_made S p status q made = release_made (end_unreleased S p status) q (put_made (end_updates p status) (tick S) q made)
 
 -- ---- threads
 
@@ -331,40 +325,49 @@ outcome_allows constants S who call =
     (refusal_of_fails call (get S.tables who.pid) reply refuses))
     (λ table _. (proper call).allows constants (tick S) who table)
 
--- a process that lives after the release has the threads that it had
+-- a process that lives after the release has what it had
+released_own : (U : State) (p : ℕ) → get (release U).statuses p ≡ Some Live
+    → (get U.statuses p ≡ Some Live) × (get (release U).processes p ≡ get U.processes p)
+released_own U p live =
+    let spared = live_spared U p live in (sym (status_spared U (ends U) p spared) ∙ live, process_spared U (ends U) p spared)
+
 pub released_threads : (U : State) (p : ℕ) → get (release U).statuses p ≡ Some Live → (get U.statuses p ≡ Some Live) × (threads_of (release U) p ≡ threads_of U p)
-released_threads U p live =
-    let spared = live_spared U p live in (
-      sym (status_spared U (ends U) p spared) ∙ live,
-      ap (option_map (λ (own : ProcessState). own.threads)) (process_spared U (ends U) p spared),
-    )
+released_threads U p live = let both = released_own U p live in (both.0, ap threads_in both.1)
+
+-- where a process lives after its call, that has changed it as it does
+step_changes : (constants : Constants) (S : State) (who : Who) (call : Call) → get (unreleased constants S who call).statuses who.pid ≡ Some Live
+    → IsChangedBy (own_by (meaning_of call).own who.tid (step_answer constants S who call)) (get S.processes who.pid)
+    (get (put_all (outcome constants S who call).updates (tick S)).processes who.pid)
+step_changes constants S who call live =
+    let a = step_answer constants S who call in
+    let after = put_all (outcome constants S who call).updates (tick S) in
+    let lives : get after.statuses who.pid ≡ Some Live =
+    waits_if_same (λ U. get U.statuses who.pid ≡ Some Live → get after.statuses who.pid ≡ Some Live) a who (waiting constants call who (S.clock + 1000)) after
+    (λ h. h) (λ h. h) live in
+    elim (outcome_own constants S who call) [ inl is ↦ is | inr ended ↦ absurd (ended.0 lives) ]
 
 -- of a process that lives after it a call leaves what it says
 step_leaves : (constants : Constants) (S : State) (who : Who) (call : Call) → get (step_state constants S who call).statuses who.pid ≡ Some Live
     → LeavesThreads constants S who call (step_answer constants S who call) (step_state constants S who call)
 step_leaves constants S who call live =
-    let a = step_answer constants S who call in
-    let thread = waiting constants call who (S.clock + 1000) in
     let after = put_all (outcome constants S who call).updates (tick S) in
     let both = released_threads (unreleased constants S who call) who.pid live in
-    let lives : get after.statuses who.pid ≡ Some Live =
-    waits_if_same (λ U. get U.statuses who.pid ≡ Some Live → get after.statuses who.pid ≡ Some Live) a who thread after (λ h. h) (λ h. h) both.0 in
-    let changed : IsChangedBy (own_by (meaning_of call).own who.tid a) (get S.processes who.pid) (get after.processes who.pid) =
-    elim (outcome_own constants S who call) [ inl is ↦ is | inr ended ↦ absurd (ended.0 lives) ] in
-    leaves_threads constants S who call a after (step_state constants S who call) (outcome_allows constants S who call, changed) both.1
+    leaves_threads constants S who call (step_answer constants S who call) after (step_state constants S who call)
+    (outcome_allows constants S who call, step_changes constants S who call both.0) both.1
 
--- what it has made, whether it lives or not
-step_counts : (constants : Constants) (S : State) (who : Who) (call : Call)
+-- and it has made what the call says
+step_counts : (constants : Constants) (S : State) (who : Who) (call : Call) → get (step_state constants S who call).statuses who.pid ≡ Some Live
     → LeavesCounts call (step_answer constants S who call) (counts_in (get S.processes who.pid)) (counts_in (get (step_state constants S who call).processes who.pid))
-step_counts constants S who call =
+step_counts constants S who call live =
     let a = step_answer constants S who call in
     let thread = waiting constants call who (S.clock + 1000) in
     let after = put_all (outcome constants S who call).updates (tick S) in
     let waits : counts_in (get (unreleased constants S who call).processes who.pid) ≡ counts_in (get after.processes who.pid) =
     waits_if_same (λ U. counts_in (get U.processes who.pid) ≡ counts_in (get after.processes who.pid)) a who thread after
     (λ _. with_counts after who.pid who.tid thread who.pid) refl in
-    subst (LeavesCounts call a (counts_in (get S.processes who.pid))) (sym (left_counts (unreleased constants S who call) who.pid ∙ waits))
-    (leaves_counts call a who.pid who.tid (tick S) after (outcome_allows constants S who call) (outcome_own constants S who call))
+    let both = released_own (unreleased constants S who call) who.pid live in
+    subst (LeavesCounts call a (counts_in (get S.processes who.pid))) (sym (ap counts_in both.1 ∙ waits))
+    (leaves_counts call a who.pid who.tid (tick S) after (outcome_allows constants S who call) (step_changes constants S who call both.0))
 
 -- a call that lacks memory leaves all
 lacking_own : (S : State) (who : Who) (call : Call) → IsOwnAfter S who call (answer.Reply (refused Nomem)) (tick S)
@@ -391,7 +394,7 @@ step_moves_only constants S who call given T (inr lacking) =
       others = λ q apart _. inl (refl, refl, refl);
       born = lacking_bears S (tick S) who call;
       threads = λ live. leaves_threads constants S who call (answer.Reply (refused Nomem)) (tick S) (tick S) (lacking_own S who call) refl;
-      counts = leaves_counts call (answer.Reply (refused Nomem)) who.pid who.tid S (tick S) (lacking_own S who call).0 (inl (lacking_own S who call).1);
+      counts = λ live. leaves_counts call (answer.Reply (refused Nomem)) who.pid who.tid S (tick S) (lacking_own S who call).0 (lacking_own S who call).1;
     }))
 
 end_spared : (S : State) (p : ℕ) (status : Status) → status ≢ Live → is_killed (end_unreleased S p status) (ends (end_unreleased S p status)) p ≡ false
@@ -402,18 +405,17 @@ end_spared S p status ends_it =
       | false ↦ λ e. refl
     ] refl
 
--- and has counted what it had
-pub end_counts : (S : State) (p : ℕ) (status : Status) → counts_in (get (end_state S p status).processes p) ≡ counts_in (get S.processes p)
-unfolding end_state
-end_counts S p status = left_counts (end_unreleased S p status) p ∙ counts_stay (tick S) p status p
-
 pub end_ends_only : (S : State) (p : ℕ) (status : Status) → status ≢ Live → EndsOnly S p status (end_state S p status)
 unfolding end_state
 end_ends_only S p status ends_it = record {
   clock = refl;
   others = λ q apart. (
-      let unset = end_others p (get S.processes p) status q apart in
-      others_from S (end_unreleased S p status) (end_state S p status) q (put_others (end_updates p (get S.processes p) status) (tick S) q unset.0 unset.1)
+      let unset = end_others p status q apart in
+      others_from S (end_unreleased S p status) (end_state S p status) q (put_others (end_updates p status) (tick S) q unset.0 unset.1)
       (release_others (end_unreleased S p status) q));
   stands = status_spared (end_unreleased S p status) (ends (end_unreleased S p status)) p (end_spared S p status ends_it) ∙ get-insert-same S.statuses p status;
+  gone = (
+    table_spared (end_unreleased S p status) (ends (end_unreleased S p status)) p (end_spared S p status ends_it) ∙ get-remove-same S.tables p,
+    process_spared (end_unreleased S p status) (ends (end_unreleased S p status)) p (end_spared S p status ends_it) ∙ get-remove-same S.processes p,
+  );
 }

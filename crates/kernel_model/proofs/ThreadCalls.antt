@@ -26,10 +26,11 @@ use Rattle.kernel_model.proofs.Locks.{released_keeps}
 use Rattle.kernel_model.proofs.OwnChanges.{ended_grows, set_process_nearly_valid, thread_grows}
 use Rattle.kernel_model.proofs.MovedThreads.{moved_nearly_valid}
 use Rattle.kernel_model.proofs.Parts.{beyond_process, own_becomes, own_stays}
-use Rattle.kernel_model.proofs.ProcessCalls.{end_others, end_unset, ended_live, ends_own}
+use Rattle.kernel_model.proofs.ProcessCalls.{end_others, end_unset, exits_own}
 use Rattle.kernel_model.proofs.Sights.{first_seen}
 use Rattle.kernel_model.proofs.Tests.{none_of, not_true}
 use Rattle.kernel_model.proofs.EndedValid.{end_nearly_valid}
+use Rattle.kernel_model.proofs.Valids.{holder_is_made}
 
 -- ---- thread_create
 
@@ -112,13 +113,13 @@ abbrev pub left_outcome : ℕ → ℕ → List Update → Outcome
 left_outcome lock word updates = record { answer = answer.Reply (word_reply lock word); updates = updates }
 
 -- what holds of the updates where the process ends, and where the thread alone does, holds of them
-left_by : (Q : List Update → Type 0) (p t : ℕ) (own : ProcessState) → (is_last_thread t own ≡ true → Q (end_updates p (Some own) (Exit 0)))
+left_by : (Q : List Update → Type 0) (p t : ℕ) (own : ProcessState) → (is_last_thread t own ≡ true → Q (end_updates p (Exit 0)))
     → (is_last_thread t own ≡ false → Q (set_process p (without_thread t own) ∷ [])) → Q (left_updates p t (Some own))
 left_by Q p t own ends goes =
     elim (is_last_thread t own) as (λ b. is_last_thread t own ≡ b → Q (left_if_last b p t own)) [ true ↦ ends | false ↦ goes ] refl
 
 left_word : (P : Outcome → Type 0) (p t : ℕ) (own : ProcessState) (lock : ℕ) (word : Option ℕ) → P (replies (refused Perm))
-    → ((new : ℕ) → word ≡ Some new → is_last_thread t own ≡ true → P (left_outcome lock new (end_updates p (Some own) (Exit 0))))
+    → ((new : ℕ) → word ≡ Some new → is_last_thread t own ≡ true → P (left_outcome lock new (end_updates p (Exit 0))))
     → ((new : ℕ) → word ≡ Some new → is_last_thread t own ≡ false → P (left_outcome lock new (set_process p (without_thread t own) ∷ [])))
     → P (left_with p t (Some own) lock word)
 left_word P p t own lock None may_not ends goes = may_not
@@ -127,7 +128,7 @@ left_word P p t own lock (Some new) may_not ends goes = left_by (λ us. P (left_
 -- what holds of the refusal, where the process ends, and where the thread alone does, holds of the outcome
 pub left_holds : (P : Outcome → Type 0) (p t lock word : ℕ) (o : Option ProcessState) → P (replies (refused Perm))
     → ((new : ℕ) (own : ProcessState) → o ≡ Some own → released_word (release_of t word) lock own.threads ≡ Some new
-    → is_last_thread t (unlocked_own lock word t own) ≡ true → P (left_outcome lock new (end_updates p o (Exit 0))))
+    → is_last_thread t (unlocked_own lock word t own) ≡ true → P (left_outcome lock new (end_updates p (Exit 0))))
     → ((new : ℕ) (own : ProcessState) → o ≡ Some own → released_word (release_of t word) lock own.threads ≡ Some new
     → is_last_thread t (unlocked_own lock word t own) ≡ false
     → P (left_outcome lock new (set_process p (without_thread t (unlocked_own lock word t own)) ∷ []))) → P (left_in p t lock word o)
@@ -168,7 +169,7 @@ thread_exit_is_proper lock word = record {
   sets = λ constants S who table part h.
       let own = beyond_process who.pid [] part h in
       left_holds (λ o. IsUnset o part) who.pid who.tid lock word (get S.processes who.pid) refl
-      (λ _ _ _ _ _. end_unset who.pid (get S.processes who.pid) (Exit 0) part own.0)
+      (λ _ _ _ _ _. end_unset who.pid (Exit 0) part own.0)
       (λ _ _ _ _ _. process_table who.pid part own.0);
   touched = λ S table part h. absurd (not_true h);
   plain = λ constants v who table.
@@ -178,19 +179,19 @@ thread_exit_is_proper lock word = record {
   lacks = λ h. absurd (not_true h);
   others = λ constants v who table q apart _.
       left_holds (λ o. IsUnset o (at_proc q) × IsUnset o (at_status q)) who.pid who.tid lock word (v.process who.pid) (refl, refl)
-      (λ _ _ _ _ _. end_others who.pid (v.process who.pid) (Exit 0) q apart) (λ _ _ _ _ _. (other_table who.pid q apart, refl));
+      (λ _ _ _ _ _. end_others who.pid (Exit 0) q apart) (λ _ _ _ _ _. (other_table who.pid q apart, refl));
   own = λ constants S who table.
       let f = λ (own : ProcessState). without_thread who.tid (unlocked_own lock word who.tid own) in
       left_holds (λ o. LeavesOwn (ends_one lock word) who.pid who.tid o.answer S (put_all o.updates S)) who.pid who.tid lock word
       (get S.processes who.pid) (inl (own_stays (get S.processes who.pid)))
-      (λ _ _ _ _ _. inr (ended_live S.statuses who.pid 0, ends_own f (λ _. refl) (λ _. refl) who.pid S.processes))
+      (λ _ _ _ _ _. inr (exits_own S who.pid 0))
       (λ _ own there _ _. inl (own_becomes f (get S.processes who.pid) _ own there (get-insert-same S.processes who.pid (f own))));
   allows = λ constants S who table. tt;
   carries = λ constants S who table nearly.
-      left_holds (AllCarryOn S (table, [], false)) who.pid who.tid lock word (get S.processes who.pid) tt (λ _ _ _ _ _. (tt, (tt, (tt, tt))))
+      left_holds (AllCarryOn S (table, [], false)) who.pid who.tid lock word (get S.processes who.pid) tt (λ _ _ _ _ _. (tt, (tt, tt)))
       (λ _ _ _ _ _. (tt, tt));
   valid = λ constants S who table there nearly.
       left_holds (λ o. IsNearlyValid (put_all o.updates S)) who.pid who.tid lock word (get S.processes who.pid) nearly
-      (λ _ _ _ _ _. end_nearly_valid S who.pid (Exit 0) (sym (nearly.tables who.pid) ∙ ap is_some there) nearly)
+      (λ _ _ _ _ _. end_nearly_valid S who.pid (Exit 0) (λ e. cc) (holder_is_made S who.pid table nearly there) nearly)
       (λ _ own is _ _. left_nearly_valid S who.pid who.tid lock word own is nearly);
 }

@@ -279,7 +279,7 @@ is_last own t none =
     ])) ∙ len-empty nat_cmp Thread)
 
 exits_is : (constants : Constants) (S : State) (who : Who) (table : Table) → get S.tables who.pid ≡ Some table
-    → step_state constants S who (ProcExit 0) ≡ release (put_all (end_updates who.pid (get S.processes who.pid) (Exit 0)) (tick S))
+    → step_state constants S who (ProcExit 0) ≡ release (put_all (end_updates who.pid (Exit 0)) (tick S))
 exits_is constants S who table there =
     ap (state_of constants S who (ProcExit 0)) (outcome_of_table constants S who (ProcExit 0) table there)
 
@@ -333,7 +333,7 @@ exit_leaves_one constants S who (ThreadExit lock word scope) (answer.Reply reply
     (λ _. left_holds (Comes P constants S who (ThreadExit lock word scope)) who.pid who.tid lock word (get S.processes who.pid)
     (λ given is done. fails Perm given refl is done)
     (λ new own _ _ last given is done lives.
-    absurd (ended_live S.statuses who.pid 0 (released_threads (put_all (end_updates who.pid (get S.processes who.pid) (Exit 0)) (tick S)) who.pid lives).0))
+    absurd (ended_live S.statuses who.pid 0 (released_threads (put_all (end_updates who.pid (Exit 0)) (tick S)) who.pid lives).0))
     (λ new own there _ more given is done lives. (
     let unlocked : ProcessState = unlocked_own lock word who.tid own in
     let one = some_key (remove unlocked.threads who.tid) more in

@@ -12,21 +12,20 @@ use Rattle.std.proofs.lemmas.Bool.{eq-eqb}
 use Rattle.std.proofs.lemmas.Bool.Decides.{eqb_tells}
 use Rattle.std.specs.Prelude.{if◌then◌else◌}
 use Rattle.std.specs.Option.{option_map}
-use Rattle.std.specs.FinMap.{get, empty, insert}
+use Rattle.std.specs.FinMap.{get, insert}
 use Rattle.abi_types.specs.declared.counts.Counts.{Counts}
 use Rattle.abi_types.specs.declared.reply.Answer.{Answer}
 use Rattle.abi_types.specs.declared.reply.Answer.TheVariants as answer
 use Rattle.abi_types.specs.declared.thread.Thread.{Thread}
 use Rattle.abi_types.specs.declared.who.Who.{Who}
 use Rattle.maps.specs.Maps.{get-insert-same, get-insert-other, same_around}
-use Rattle.maps.specs.Closure.{changed, changed-empty, get-changed}
+use Rattle.maps.specs.Closure.{changed, get-changed}
 use Rattle.kernel_model.specs.Outcome.{is_parked}
 use Rattle.kernel_model.specs.State.{State, ProcessState, Part, at_proc, same_part, Agree, thread_in, thread_of, counts_in}
 use Rattle.kernel_model.specs.Valid.{IsNearlyValid, IsValid}
 use Rattle.kernel_model.specs.Waits.{thread_set, with_thread, waits_if, MayWait}
 use Rattle.kernel_model.proofs.Children.{same_keeps, KeepsChildren}
 use Rattle.kernel_model.proofs.Parts.{number_apart, other_number}
-use Rattle.kernel_model.proofs.Tests.{same_some}
 use Rattle.kernel_model.proofs.Valids.{processes_nearly_valid, some_mapped, threads_in}
 
 -- ---- where a test says whether a value is another
@@ -63,15 +62,6 @@ thread_where : (b : Bool) (t : ℕ) (thread : Thread) (o : Option ProcessState) 
 thread_where b t thread None u = refl
 thread_where true t thread (Some own) u = get-changed (λ k before. if k == t then thread else before) own.threads u
 thread_where false t thread (Some own) u = sym (unchanged (λ before. thread) (get own.threads u))
-
-bare_where : (b : Bool) (t : ℕ) (thread : Thread) (o : Option ProcessState) → threads_in o ≡ Some empty
-    → threads_in (option_map (set_where b t thread) o) ≡ Some empty
-bare_where b t thread None bare = bare
-bare_where false t thread (Some own) bare = bare
-bare_where true t thread (Some own) bare =
-    ap Some
-    (ap (changed (λ k before. if k == t then thread else before)) (same_some own.threads empty bare)
-    ∙ changed-empty (λ k (before : Thread). if k == t then thread else before))
 
 module _ (S : State) (p t : ℕ) (thread : Thread) where
   with_processes : (q : ℕ) → get (with_thread S p t thread).processes q ≡ option_map (set_where (q == p) t thread) (get S.processes q)
@@ -141,7 +131,6 @@ module _ (S : State) (p t : ℕ) (thread : Thread) where
       processes_nearly_valid S (with_thread S p t thread).processes
       (record {
         there = with_there;
-        bare = λ q bare. ap threads_in (with_processes q) ∙ bare_where (q == p) t thread (get S.processes q) bare;
         numbered = λ q u there. subst (λ (c : Counts). u ≤ c.threads) (sym (with_counts q)) (v.numbered q u (thread_still q u there));
         waits = each_thread MayWait may v.waits;
         more = λ q. let same = ap (λ (c : Counts). c.objects) (with_counts q) in omega (arith, same);

@@ -40,7 +40,7 @@ use Rattle.kernel_model.specs.Families.Polls.{is_of_lock, poll, poll_by}
 use Rattle.kernel_model.specs.Meaning.{Meaning}
 use Rattle.kernel_model.specs.Need.{some_absent, first_lack, denied_by}
 use Rattle.kernel_model.specs.Outcome.{OnReply}
-use Rattle.kernel_model.specs.OwnChanges.{OwnChange, keeps_own, makes_one, ends_one, draws_words, forks_one, begins_anew, lets_lock_go, signals_some, hands_lock_on, begins_to_sleep, begun_anew, born_of, drawn_more, next_child, with_next_child, is_done, is_success, next_thread, own_by, with_next_thread, without_thread, IsChangedBy, HasEndedBy, AllowsChange, LeavesOwn}
+use Rattle.kernel_model.specs.OwnChanges.{OwnChange, keeps_own, makes_one, ends_one, draws_words, forks_one, begins_anew, lets_lock_go, signals_some, hands_lock_on, begins_to_sleep, begun_anew, born_of, drawn_more, next_child, with_next_child, is_done, is_success, next_thread, own_by, with_next_thread, without_thread, IsChangedBy, AllowsChange}
 use Rattle.kernel_model.specs.Reply.{refused, denied}
 use Rattle.kernel_model.specs.State.{State, Table, Threads, ProcessState, no_counts, counts_in, threads_of, thread_in, thread_of}
 use Rattle.kernel_model.specs.Threads.{child_in, child_made, ends_caller, ends_others, makes_child, makes_thread, moves_waiters, next_number, stays, words_drawn, IsMoved, LeavesCounts, LeavesThreads}
@@ -673,25 +673,14 @@ counts_changed change t given (Some own) after allows is =
     subst (λ o. CountsAfter change given own.counts (counts_in o)) (sym is.1)
     (record { threads = done.threads; words = done.words; forks = done.forks; objects = omega (arith, more) })
 
-counts_ended : (change : OwnChange) (t : ℕ) (given : Answer) (before after : Option ProcessState) → AllowsChange change t given before
-    → HasEndedBy (own_by change t given) before after → CountsAfter change given (counts_in before) (counts_in after)
-counts_ended change t given None after allows is =
-    subst (λ o. CountsAfter change given no_counts (counts_in o)) (sym is) (counts_of_none change t given allows)
-counts_ended change t given (Some own) after allows is =
-    subst (λ o. CountsAfter change given own.counts (counts_in o)) (sym is) (counts_done change t given own)
-
--- the law, for a call whose process was left so
 pub leaves_counts : (call : Call) (given : Answer) (p t : ℕ) (S T : State) → AllowsChange (meaning_of call).own t given (get S.processes p)
-    → LeavesOwn (meaning_of call).own p t given S T → LeavesCounts call given (counts_in (get S.processes p)) (counts_in (get T.processes p))
-leaves_counts call given p t S T allows left =
+    → IsChangedBy (own_by (meaning_of call).own t given) (get S.processes p) (get T.processes p) → LeavesCounts call given (counts_in (get S.processes p)) (counts_in (get T.processes p))
+leaves_counts call given p t S T allows changed =
     let change : OwnChange = (meaning_of call).own in
     let before : Option ProcessState = get S.processes p in
     let after : Option ProcessState = get T.processes p in
     let is : CountsAfter change given (counts_in before) (counts_in after) =
-    elim left [
-      | inl changed ↦ counts_changed change t given before after allows changed
-      | inr ended ↦ counts_ended change t given before after allows ended.1
-    ] in
+    counts_changed change t given before after allows changed in
     record {
       threads = is.threads ∙ ap (λ b. (counts_in before).threads + number_if b 1) (sym (makes_is call given));
       words = is.words ∙ ap (λ n. (counts_in before).words + n) (sym (draws_is call given));

@@ -1,7 +1,7 @@
 -- A call changes nothing outside what it touches and what the release after it ends.
 use Rattle.std.proofs.Common.{◌≡◌, ◌≢◌, ◌||◌, inl, inr, ℕ, ◌+◌, Bool, true, false, not, cond, T, [], ◌∷◌, ◌++◌, map, Option, Some, None, refl, sym, ap, subst, ◌∙◌, arith}
 use Rattle.std.specs.Prelude.{if◌then◌else◌}
-use Rattle.std.specs.FinMap.{get, empty}
+use Rattle.std.specs.FinMap.{get}
 use Rattle.std.specs.Option.{option_map}
 use Rattle.abi_base.specs.declared.signal.Signal.TheVariants.{Kill}
 use Rattle.abi_types.specs.declared.reply.Answer.{Answer}
@@ -15,13 +15,13 @@ use Rattle.kernel_model.specs.Calls.{meaning_of, refusal}
 use Rattle.kernel_model.specs.OwnChanges.{made_parts}
 use Rattle.kernel_model.specs.Laws.{IsLeftBy}
 use Rattle.kernel_model.specs.Outcome.{Outcome}
-use Rattle.kernel_model.specs.Families.ProcessCalls.{ended_process, end_updates}
+use Rattle.kernel_model.specs.Families.ProcessCalls.{end_updates}
 use Rattle.kernel_model.specs.Proper.{IsUnset}
 use Rattle.tree_model.specs.Retained.{retained-no_node, retained-no_table, retained-node, retained-table}
-use Rattle.kernel_model.specs.Release.{ends, is_channel_kept, kept_channel, loses_reader, loses_writer, is_killed, is_node_kept, is_released, process_left, release, status_left, table_left, without_ended, IsEnded}
+use Rattle.kernel_model.specs.Release.{ends, is_channel_kept, kept_channel, loses_reader, loses_writer, is_killed, is_node_kept, is_released, own_left, release, status_left, without_ended, IsEnded}
 use Rattle.kernel_model.specs.Channels.{Channel, channel_left, is_over}
 use Rattle.kernel_model.specs.Sight.{process_parts}
-use Rattle.kernel_model.specs.State.{State, Table, ProcessState, tree_of, Part, at_clock, at_proc, at_status, at_open, at_node, at_names, at_chan, same_part, has_part, Agree, part_of, put_all}
+use Rattle.kernel_model.specs.State.{State, Table, tree_of, Part, at_clock, at_proc, at_status, at_open, at_node, at_names, at_chan, same_part, has_part, Agree, part_of, put_all}
 use Rattle.kernel_model.specs.Step.{tick, unless_refused, changed, made_by, made_on, touch, unless, outcome_on, outcome, unreleased, step_answer, step_state, IsStep, IsUntouched, end_unreleased, end_state}
 use Rattle.kernel_model.specs.View.{whole}
 use Rattle.kernel_model.specs.Waits.{waiting}
@@ -85,18 +85,10 @@ release_keeps S (at_chan c) h =
 release_keeps S q h = refl
 
 -- what becomes of a part that the release ends
-killed_table : (t : Option Table) → option_map (table_left true) t ≡ option_map (λ (table : Table). empty) t
-killed_table None = refl
-killed_table (Some t) = refl
-
-killed_process : (own : Option ProcessState) → option_map (process_left true) own ≡ option_map (λ (x : ProcessState). ended_process (Some x)) own
-killed_process None = refl
-killed_process (Some own) = refl
-
 pub release_ends : (S : State) (q : Part) → is_released S q ≡ true → IsEnded S (release S) q
 release_ends S (at_proc p) h = (
-  table_after S (ends S) p ∙ ap (λ b. option_map (table_left b) (get S.tables p)) h ∙ killed_table (get S.tables p),
-  process_after S (ends S) p ∙ ap (λ b. option_map (process_left b) (get S.processes p)) h ∙ killed_process (get S.processes p),
+  table_after S (ends S) p ∙ ap (λ b. own_left b (get S.tables p)) h,
+  process_after S (ends S) p ∙ ap (λ b. own_left b (get S.processes p)) h,
 )
 release_ends S (at_status p) h =
     let by = killed_by S (ends S) p h in (
@@ -206,5 +198,5 @@ pub end_keeps : (S : State) (p : ℕ) (status : Status) (q : Part) → has_part 
 unfolding end_state
 end_keeps S p status q outside stays =
     agree_through (end_state S p status) (end_unreleased S p status) S q (release_keeps (end_unreleased S p status) q stays)
-    (agree_through (end_unreleased S p status) (tick S) S q (put_keeps (end_updates p (get S.processes p) status) (tick S) q (end_unset p (get S.processes p) status q outside))
+    (agree_through (end_unreleased S p status) (tick S) S q (put_keeps (end_updates p status) (tick S) q (end_unset p status q outside))
     (tick_keeps S q (outside_cons at_clock (at_proc p ∷ at_status p ∷ []) q outside).0))

@@ -24,7 +24,7 @@ use Rattle.kernel_model.specs.Families.Numbers.{can_number, next_object, object_
 use Rattle.kernel_model.specs.OwnChanges.{IsChangedBy}
 use Rattle.kernel_model.specs.State.{State, Names, ProcessState, Tree, tree_of, Part, Update, counts_in, has_part, part_of, put_all, put_one, set_node, set_names, set_process}
 use Rattle.kernel_model.specs.Families.TreeUpdates.{Change, change_updates, names_update, names_updates, node_update, nodes_updates}
-use Rattle.kernel_model.specs.Valid.{HasBehind, IsNearlyValid}
+use Rattle.kernel_model.specs.Valid.{HasBehind, IsNearlyValid, IsUncounted}
 use Rattle.kernel_model.proofs.FileMeanings.{IsOfTree}
 use Rattle.kernel_model.proofs.NameMeanings.{IsChangeOf}
 use Rattle.kernel_model.proofs.ObjectNumbers.{fewer_fit}
@@ -167,7 +167,7 @@ pub record IsTreeAfter (S : State) (u : Tree) : Type 0 where
   pub tree : IsTree u
   pub files : (q : ℕ) → is_file (tree_of S) q ≡ true → is_file u q ≡ true
   pub directories : (q : ℕ) → is_directory (tree_of S) q ≡ true → is_directory u q ≡ true
-  pub made : (p k : ℕ) → p < 0xffffffff → (counts_in (get S.processes p)).objects < k → k < 2 ^ 32 → get u.nodes (object_of p k) ≡ None
+  pub made : (p k : ℕ) → p < 0xffffffff → IsUncounted S p k → k < 2 ^ 32 → get u.nodes (object_of p k) ≡ None
 
 behind_after : (S : State) (u : Tree) → IsTreeAfter S u → (kind : OpenKind) → HasBehind S kind → HasBehind (with_tree u S) kind
 behind_after S u after (File q offset flags) h = after.files q h
@@ -183,7 +183,6 @@ with_tree_nearly_valid S u after v = record {
   sole = v.sole;
   tables = v.tables;
   owns = v.owns;
-  ended = v.ended;
   numbered = v.numbered;
   made = v.made;
   made_nodes = after.made;
@@ -246,17 +245,17 @@ module _ (S : State) (p count new new_nodes : ℕ) (c : Change) (can : can_numbe
   counted_change = subst (λ t. IsChangeOf t new new_nodes c) (sym (counted_tree S p count)) change
 
   -- the new node is one of those that the process has made now
-  new_is_counted : (q k : ℕ) → (counts_in (get (counted p count S).processes q)).objects < k → k < 2 ^ 32 → object_of q k ≡ new → new_nodes ≢ 0 → ⊥
+  new_is_counted : (q k : ℕ) → IsUncounted (counted p count S) q k → k < 2 ^ 32 → object_of q k ≡ new → new_nodes ≢ 0 → ⊥
   new_is_counted q k beyond small is some =
       let one : 1 ≤ count = omega (arith, some, enough) in
       let fits = fewer_fit p 1 count (get S.processes p) (omega arith) one can in
       let at = one_object p q ((counts_in (get S.processes p)).objects + 1) k (is ∙ is_next some) small fits.1 in
       let number : k ≡ (counts_in (get S.processes p)).objects + 1 = at.1 in
       let total : (counts_in (get (counted p count S).processes p)).objects ≡ (counts_in (get S.processes p)).objects + count = counted_more S p count can in
-      let past : (counts_in (get (counted p count S).processes p)).objects < k = subst (λ r. (counts_in (get (counted p count S).processes r)).objects < k) at.0 beyond in
+      let past : (counts_in (get (counted p count S).processes p)).objects < k = subst (λ r. (counts_in (get (counted p count S).processes r)).objects < k) at.0 beyond.1 in
       omega (arith, number, total, past, one)
 
-  still_unmade : (q k : ℕ) → q < 0xffffffff → (counts_in (get (counted p count S).processes q)).objects < k → k < 2 ^ 32 → get c.tree.nodes (object_of q k) ≡ None
+  still_unmade : (q k : ℕ) → q < 0xffffffff → IsUncounted (counted p count S) q k → k < 2 ^ 32 → get c.tree.nodes (object_of q k) ≡ None
   still_unmade q k small beyond fits =
       let before : get (tree_of S).nodes (object_of q k) ≡ None =
       ap (λ (t : Tree). get t.nodes (object_of q k)) (sym (counted_tree S p count)) ∙ (counted_nearly_valid S p count v).made_nodes q k small beyond fits in

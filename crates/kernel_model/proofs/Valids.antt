@@ -1,24 +1,23 @@
 -- What keeps a state valid, or nearly so: one part set, the end of a process, and the release.
-use Rattle.std.proofs.Common.{◌≡◌, ◌≢◌, inl, inr, ℕ, ◌+◌, ◌<◌, ◌≤◌, ◌^◌, ◌==◌, Bool, true, false, not, cond, ◌&&◌, ◌||◌, T, Option, Some, None, IsSome, is_some, refl, sym, ap, subst, ◌∙◌, arith}
+use Rattle.std.proofs.Common.{◌≡◌, ◌≢◌, ◌⊎◌, inl, inr, ℕ, ◌+◌, ◌<◌, ◌≤◌, ◌^◌, ◌==◌, Bool, true, false, not, cond, ◌&&◌, ◌||◌, T, Option, Some, None, IsSome, is_some, refl, sym, ap, subst, ◌∙◌, arith}
 use Rattle.std.proofs.lemmas.Bool.Decides.{eqb_tells}
 use Rattle.std.proofs.lemmas.Bool.{eq-eqb, eqb-true}
 use Rattle.std.proofs.lemmas.Nat.{and_assoc}
 use Rattle.std.specs.Prelude.{bit_and, nat_lt, IsTrue}
 use Rattle.abi_base.specs.Rights.{has_all}
 use Rattle.std.specs.Ordering.{nat_cmp}
-use Rattle.std.specs.FinMap.{FinMap, get, get-empty, insert, empty}
+use Rattle.std.specs.FinMap.{FinMap, get, insert, remove}
 use Rattle.std.specs.List.{list_any}
 use Rattle.std.specs.Option.{option_map}
 use Rattle.abi_types.specs.declared.chan_kind.ChanKind.{ChanKind}
-use Rattle.abi_types.specs.declared.counts.Counts.{Counts}
 use Rattle.abi_types.specs.declared.descriptor.Descriptor.{Descriptor}
 use Rattle.abi_types.specs.declared.open_kind.OpenKind.{OpenKind}
 use Rattle.abi_types.specs.declared.open_kind.OpenKind.TheVariants.{File, Directory, End, Terminal, Process}
 use Rattle.abi_types.specs.declared.status.Status.{Status}
-use Rattle.abi_types.specs.declared.status.Status.TheVariants.{Live}
+use Rattle.abi_types.specs.declared.status.Status.TheVariants.{Live, Exit, Killed}
 use Rattle.abi_types.specs.declared.stream.Stream.{Stream}
 use Rattle.maps.specs.Closure.{member}
-use Rattle.maps.specs.Maps.{get-insert-same, get-insert-other, get-retain, same_numbers, total, weight, total-empty, total-insert, total_at_least}
+use Rattle.maps.specs.Maps.{get-insert-same, get-insert-other, get-retain, same_numbers, total, weight, total-remove, total_at_least}
 use Rattle.tree_model.specs.declared.limits.TheConstants.{ROOT}
 use Rattle.tree_model.specs.Changes.{is_file_node}
 use Rattle.tree_model.specs.Counts.{one_for-same}
@@ -27,18 +26,18 @@ use Rattle.tree_model.specs.Releasing.{retained-all, used_by_links, used_by_open
 use Rattle.tree_model.specs.Retained.{retained, retained-node, retained-no_node, retained-tree}
 use Rattle.tree_model.specs.Tree.{IsTree, is_directory_node, links_in, links_of}
 use Rattle.kernel_model.specs.Channels.{Channel, SideState, Gone, Open, Shut, channel_left, is_empty, is_gone}
-use Rattle.kernel_model.specs.Release.{names_open, count_in, holders, carried_in, carriers, is_channel_kept, is_of_process, is_reader, is_writer, kept_channel, loses_reader, loses_writer, is_killed, table_left, process_left, status_left, without, ends, release, is_ending, is_node_kept, without_ended, without_nodes, without_over}
-use Rattle.kernel_model.specs.State.{State, Table, Threads, ProcessState, tree_of, put_one, set_open, set_table, set_term, threads_of, thread_in, thread_of, counts_in}
+use Rattle.kernel_model.specs.Release.{names_open, count_in, holders, carried_in, carriers, is_channel_kept, is_of_process, is_reader, is_writer, kept_channel, loses_reader, loses_writer, is_killed, lives, own_left, status_left, without, ends, release, is_ending, is_node_kept, without_ended, without_nodes, without_over}
+use Rattle.kernel_model.specs.State.{State, Table, Threads, ProcessState, tree_of, put_one, set_open, set_table, set_term, thread_in, thread_of, counts_in}
 use Rattle.kernel_model.specs.Step.{tick}
 use Rattle.kernel_model.specs.Families.Numbers.{object_of}
 use Rattle.kernel_model.specs.Fits.{fits, fits_inheriting}
-use Rattle.kernel_model.specs.Valid.{AreSole, AtMostOne, IsJoined, IsNamed, HasBehind, HasReader, HasWriter, IsNearlyValid, IsValid}
+use Rattle.kernel_model.specs.Valid.{AreSole, AtMostOne, IsJoined, IsNamed, HasBehind, HasReader, HasWriter, has_ended, IsNearlyValid, IsUncounted, IsValid}
 use Rattle.kernel_model.specs.Waits.{MayWait}
 use Rattle.kernel_model.proofs.Children.{all_born, left_keeps, KeepsChildren}
 use Rattle.kernel_model.proofs.Channels.{KeepsEnds, carriers_kept, channel_released, left_joined, opens_joined, was_channel}
-use Rattle.kernel_model.proofs.Ends.{any_member, any_of_member, ends_closed, ends_none, ends_unheld, process_after, same_process, same_status, same_table, status_after, table_after, without_none}
+use Rattle.kernel_model.proofs.Ends.{any_member, any_of_member, ends_closed, ends_none, ends_unheld, process_after, process_spared, same_status, status_after, table_after, without_none}
 use Rattle.kernel_model.proofs.SoleOpens.{PassesAsBefore, one_more, one_still}
-use Rattle.kernel_model.proofs.Tests.{not_true, none_is_no, and_false, same_some}
+use Rattle.kernel_model.proofs.Tests.{not_true, none_is_no, none_of, and_false, same_some}
 
 -- ---- what holds an open
 
@@ -56,14 +55,13 @@ named_is_held S p n table d there here =
 pub held_or_carried : (S : State) (o : ℕ) → 0 < holders S o → 0 < holders S o + carriers S o
 held_or_carried S o held = omega (arith, held)
 
--- a process that gives up its descriptors takes just its own holders along
-pub emptied_holders : (tables : FinMap nat_cmp Table) (p o : ℕ) (table : Table) → get tables p ≡ Some table
-    → total (count_in o) (insert tables p empty) + count_in o table ≡ total (count_in o) tables
-emptied_holders tables p o table there =
+-- a process that has no table any more takes just its own holders along
+pub dropped_holders : (tables : FinMap nat_cmp Table) (p o : ℕ) (table : Table) → get tables p ≡ Some table
+    → total (count_in o) (remove tables p) + count_in o table ≡ total (count_in o) tables
+dropped_holders tables p o table there =
     let own : weight (count_in o) (get tables p) ≡ count_in o table = ap (weight (count_in o)) there in
-    let none : count_in o empty ≡ 0 = total-empty (names_open o) in
-    let sums = total-insert (count_in o) tables p empty in
-    omega arith
+    let sums = total-remove (count_in o) tables p in
+    omega (arith, own, sums)
 
 -- ---- the release
 
@@ -109,92 +107,74 @@ pub some_mapped : {X Y : Type 0} (f : X → Y) (o : Option X) → is_some (optio
 some_mapped f None = refl
 some_mapped f (Some x) = refl
 
--- a table that has a descriptor after the release is what it was
-unemptied : (killed : Bool) (before : Option Table) (table : Table) (n : ℕ) (d : Descriptor) → option_map (table_left killed) before ≡ Some table
-    → get table n ≡ Some d → before ≡ Some table
-unemptied killed None table n d e here = absurd (none_is_no table e)
-unemptied true (Some t) table n d e here =
-    absurd (none_is_no d (sym (get-empty nat_cmp n) ∙ ap (λ (m : Table). get m n) (same_some empty table e) ∙ here))
-unemptied false (Some t) table n d e here = e
+-- a process that has a table after the release has the one that it had
+unkilled : {X : Type 0} (killed : Bool) (before : Option X) (own : X) → own_left killed before ≡ Some own → before ≡ Some own
+unkilled true before own e = absurd (none_is_no own e)
+unkilled false before own e = e
 
-pub table_before : (S : State) (p n : ℕ) (table : Table) (d : Descriptor) → get (release S).tables p ≡ Some table → get table n ≡ Some d
-    → get S.tables p ≡ Some table
-table_before S p n table d there here =
-    unemptied (is_killed S (ends S) p) (get S.tables p) table n d (sym (table_after S (ends S) p) ∙ there) here
+pub table_before : (S : State) (p : ℕ) (table : Table) → get (release S).tables p ≡ Some table → get S.tables p ≡ Some table
+table_before S p table there = unkilled (is_killed S (ends S) p) (get S.tables p) table (sym (table_after S (ends S) p) ∙ there)
 
-left_tables : (S : State) (p : ℕ) → is_some (get S.tables p) ≡ is_some (get S.statuses p) → is_some (get (release S).tables p) ≡ is_some (get (release S).statuses p)
+-- just the processes that live have something of their own
+left_alive : {X : Type 0} (killed : Bool) (own : Option X) (status : Option Status) → is_some own ≡ lives status
+    → is_some (own_left killed own) ≡ lives (option_map (status_left killed) status)
+left_alive true own None h = refl
+left_alive true own (Some status) h = refl
+left_alive false own status h = h ∙ sym (ap lives (same_status status))
+
+left_tables : (S : State) (p : ℕ) → is_some (get S.tables p) ≡ lives (get S.statuses p) → is_some (get (release S).tables p) ≡ lives (get (release S).statuses p)
 left_tables S p same =
-    let killed : Bool = is_killed S (ends S) p in
-    ap is_some (table_after S (ends S) p) ∙ some_mapped (table_left killed) (get S.tables p) ∙ same
-    ∙ sym (ap is_some (status_after S (ends S) p) ∙ some_mapped (status_left killed) (get S.statuses p))
+    ap is_some (table_after S (ends S) p) ∙ left_alive (is_killed S (ends S) p) (get S.tables p) (get S.statuses p) same
+    ∙ sym (ap lives (status_after S (ends S) p))
 
-left_processes : (S : State) (p : ℕ) → is_some (get S.processes p) ≡ is_some (get S.statuses p)
-    → is_some (get (release S).processes p) ≡ is_some (get (release S).statuses p)
+left_processes : (S : State) (p : ℕ) → is_some (get S.processes p) ≡ lives (get S.statuses p)
+    → is_some (get (release S).processes p) ≡ lives (get (release S).statuses p)
 left_processes S p same =
-    let killed : Bool = is_killed S (ends S) p in
-    ap is_some (process_after S (ends S) p) ∙ some_mapped (process_left killed) (get S.processes p) ∙ same
-    ∙ sym (ap is_some (status_after S (ends S) p) ∙ some_mapped (status_left killed) (get S.statuses p))
+    ap is_some (process_after S (ends S) p) ∙ left_alive (is_killed S (ends S) p) (get S.processes p) (get S.statuses p) same
+    ∙ sym (ap lives (status_after S (ends S) p))
 
--- a process that has ended, now or before, has no descriptor and no thread
 abbrev pub threads_in : Option ProcessState → Option Threads
 threads_in own = option_map (λ (x : ProcessState). x.threads) own
 
-bare_left : (killed : Bool) (before : Option Status) (table : Option Table) (own : Option ProcessState) (status : Status)
-    → ((s : Status) → before ≡ Some s → s ≢ Live → (table ≡ Some empty) × (threads_in own ≡ Some empty))
-    → is_some table ≡ is_some before → is_some own ≡ is_some before → option_map (status_left killed) before ≡ Some status → status ≢ Live
-    → (option_map (table_left killed) table ≡ Some empty) × (threads_in (option_map (process_left killed) own) ≡ Some empty)
-bare_left true None table own status bare t o e ends = absurd (none_is_no status e)
-bare_left true (Some s) None own status bare t o e ends = absurd (not_true t)
-bare_left true (Some s) (Some table) None status bare t o e ends = absurd (not_true o)
-bare_left true (Some s) (Some table) (Some own) status bare t o e ends = (refl, refl)
-bare_left false before table own status bare t o e ends =
-    let both = bare status (sym (same_status before) ∙ e) ends in (same_table table ∙ both.0, ap threads_in (same_process own) ∙ both.1)
+-- a process that was not killed has made what it had made
+pub left_counts : (S : State) (p : ℕ) → is_killed S (ends S) p ≡ false → counts_in (get (release S).processes p) ≡ counts_in (get S.processes p)
+left_counts S p spared = ap counts_in (process_spared S (ends S) p spared)
 
-left_bare : (S : State) (p : ℕ) (status : Status) → IsNearlyValid S → get (release S).statuses p ≡ Some status → status ≢ Live
-    → (get (release S).tables p ≡ Some empty) × (threads_of (release S) p ≡ Some empty)
-left_bare S p status v is ended =
-    let killed : Bool = is_killed S (ends S) p in
-    let bare = bare_left killed (get S.statuses p) (get S.tables p) (get S.processes p) status (v.ended p) (v.tables p) (v.owns p)
-    (sym (status_after S (ends S) p) ∙ is) ended in
-    (table_after S (ends S) p ∙ bare.0, ap threads_in (process_after S (ends S) p) ∙ bare.1)
+-- what a process may still make after the release it might make before
+uncounted_by : (killed : Bool) (status : Option Status) (own : Option ProcessState) (k : ℕ) → is_some own ≡ lives status
+    → has_ended (option_map (status_left killed) status) ≡ false → (counts_in (own_left killed own)).objects < k
+    → (has_ended status ≡ false) × ((counts_in own).objects < k)
+uncounted_by true None None k same going beyond = (refl, beyond)
+uncounted_by true None (Some own) k same going beyond = absurd (not_true (sym same))
+uncounted_by true (Some status) own k same going beyond = absurd (not_true (sym going))
+uncounted_by false status own k same going beyond = (sym (ap has_ended (same_status status)) ∙ going, beyond)
 
--- what a process has made so far it has made after it was killed too
-same_counts : (killed : Bool) (own : Option ProcessState) → counts_in (option_map (process_left killed) own) ≡ counts_in own
-same_counts killed None = refl
-same_counts true (Some own) = refl
-same_counts false (Some own) = refl
+left_uncounted : (S : State) (p k : ℕ) → IsNearlyValid S → IsUncounted (release S) p k → IsUncounted S p k
+left_uncounted S p k v uncounted =
+    uncounted_by (is_killed S (ends S) p) (get S.statuses p) (get S.processes p) k (v.owns p) (sym (ap has_ended (status_after S (ends S) p)) ∙ uncounted.0)
+    (subst (λ own. (counts_in own).objects < k) (process_after S (ends S) p) uncounted.1)
 
-pub left_counts : (S : State) (p : ℕ) → counts_in (get (release S).processes p) ≡ counts_in (get S.processes p)
-left_counts S p = ap counts_in (process_after S (ends S) p) ∙ same_counts (is_killed S (ends S) p) (get S.processes p)
-
--- and so has it its depth
+-- a process that is left has its depth, and has counted its children
 left_born : (S : State) (p : ℕ) → KeepsChildren (get S.processes p) (get (release S).processes p)
 left_born S p =
     subst (KeepsChildren (get S.processes p)) (sym (process_after S (ends S) p)) (left_keeps (is_killed S (ends S) p) (get S.processes p))
 
-pub no_thread : (t : ℕ) → IsSome (thread_in (Some empty) t) → ⊥
-no_thread t h = not_true (subst IsSome (get-empty nat_cmp t) h)
+-- each of its threads is numbered
+numbered_by : (killed : Bool) (own : Option ProcessState) (t : ℕ) → (IsSome (thread_in (threads_in own) t) → t ≤ (counts_in own).threads)
+    → IsSome (thread_in (threads_in (own_left killed own)) t) → t ≤ (counts_in (own_left killed own)).threads
+numbered_by true own t numbered there = absurd (not_true there)
+numbered_by false own t numbered there = numbered there
 
-same_thread : (killed : Bool) (own : Option ProcessState) (t : ℕ) → IsSome (thread_in (threads_in (option_map (process_left killed) own)) t)
-    → IsSome (thread_in (threads_in own) t)
-same_thread killed None t h = h
-same_thread true (Some own) t h = absurd (no_thread t h)
-same_thread false (Some own) t h = h
-
-left_thread : (S : State) (p t : ℕ) → IsSome (thread_of (release S) p t) → IsSome (thread_of S p t)
-left_thread S p t there =
-    same_thread (is_killed S (ends S) p) (get S.processes p) t
-    (subst (λ (own : Option ProcessState). IsSome (thread_in (threads_in own) t)) (process_after S (ends S) p) there)
-
--- no thread waits where there is none
-pub none_waits : (t : ℕ) → MayWait (thread_in (Some empty) t)
-none_waits t = subst MayWait (sym (get-empty nat_cmp t)) tt
+left_numbered : (S : State) (p t : ℕ) → (IsSome (thread_of S p t) → t ≤ (counts_in (get S.processes p)).threads) → IsSome (thread_of (release S) p t)
+    → t ≤ (counts_in (get (release S).processes p)).threads
+left_numbered S p t numbered =
+    subst (λ own. IsSome (thread_in (threads_in own) t) → t ≤ (counts_in own).threads) (sym (process_after S (ends S) p))
+    (numbered_by (is_killed S (ends S) p) (get S.processes p) t numbered)
 
 kept_waits : (killed : Bool) (own : Option ProcessState) (t : ℕ) → MayWait (thread_in (threads_in own) t)
-    → MayWait (thread_in (threads_in (option_map (process_left killed) own)) t)
-kept_waits killed None t h = h
-kept_waits true (Some own) t h = none_waits t
-kept_waits false (Some own) t h = h
+    → MayWait (thread_in (threads_in (own_left killed own)) t)
+kept_waits true own t h = tt
+kept_waits false own t h = h
 
 left_waits : (S : State) (p t : ℕ) → MayWait (thread_of S p t) → MayWait (thread_of (release S) p t)
 left_waits S p t h =
@@ -237,6 +217,10 @@ open_is_kept S o n kind there one =
 -- the status of a process that was made stays, or says that it was killed
 left_made : (S : State) (p : ℕ) → IsSome (get S.statuses p) → IsSome (get (release S).statuses p)
 left_made S p made = ap is_some (status_after S (ends S) p) ∙ some_mapped (status_left (is_killed S (ends S) p)) (get S.statuses p) ∙ made
+
+-- and no other one is there
+made_before : (S : State) (p : ℕ) → IsSome (get (release S).statuses p) → IsSome (get S.statuses p)
+made_before S p there = sym (ap is_some (status_after S (ends S) p) ∙ some_mapped (status_left (is_killed S (ends S) p)) (get S.statuses p)) ∙ there
 
 -- an open that is left does not end
 left_is_not_ending : (S : State) (o : ℕ) (kind : OpenKind) → get (release S).opens o ≡ Some kind → is_ending S o ≡ false
@@ -377,24 +361,23 @@ release_restores S v = record {
     named = λ p n table d there here.
         subst (λ o. IsNamed o d)
         (sym (released_stays S d.id (held_stays S d.id (held_or_carried (release S) d.id (named_is_held (release S) p n table d there here)))))
-        (v.named p n table d (table_before S p n table d there here) here);
+        (v.named p n table d (table_before S p table there) here);
     behind = λ o kind e.
         let before : get S.opens o ≡ Some kind = kept_some (not (is_ending S o)) (get S.opens o) kind (sym (get_released S o) ∙ e) in
         released_behind S o kind v.sole e before (v.behind o kind before);
     sole = left_sole S v.sole;
     tables = λ p. left_tables S p (v.tables p);
     owns = λ p. left_processes S p (v.owns p);
-    ended = λ p status. left_bare S p status v;
-    numbered = λ p t there. subst (λ (c : Counts). t ≤ c.threads) (sym (left_counts S p)) (v.numbered p t (left_thread S p t there));
+    numbered = λ p t. left_numbered S p t (v.numbered p t);
     made = λ p k small beyond fits.
         get_released S (object_of p k)
         ∙ none_left (not (is_ending S (object_of p k))) (get S.opens (object_of p k))
-        (v.made p k small (subst (λ (c : Counts). c.objects < k) (left_counts S p) beyond) fits);
+        (v.made p k small (left_uncounted S p k v beyond) fits);
     made_nodes = λ p k small beyond fits.
         get-retain S.nodes (is_node_kept (without_ended S)) (object_of p k)
         ∙ none_left (is_node_kept (without_ended S) (object_of p k)) (get S.nodes (object_of p k))
-        (v.made_nodes p k small (subst (λ (c : Counts). c.objects < k) (left_counts S p) beyond) fits);
-    born = all_born S.processes (release S).processes (left_born S) v.born;
+        (v.made_nodes p k small (left_uncounted S p k v beyond) fits);
+    born = all_born S.statuses (release S).statuses S.processes (release S).processes (left_made S) (made_before S) (left_born S) v.born;
     tree = retained-tree (tree_of S) (is_node_kept (without_ended S)) v.tree (root_is_kept (without_ended S)) (named_is_kept (without_ended S));
     waits = λ p t. left_waits S p t (v.waits p t);
     channels = λ c channel there.
@@ -410,7 +393,7 @@ release_restores S v = record {
     made_channels = λ p k small beyond fits.
         channel_released S (object_of p k)
         ∙ ap (λ o. kept_channel (option_map (channel_left (loses_reader S (ends S) (object_of p k)) (loses_writer S (ends S) (object_of p k))) o))
-        (v.made_channels p k small (subst (λ (c : Counts). c.objects < k) (left_counts S p) beyond) fits);
+        (v.made_channels p k small (left_uncounted S p k v beyond) fits);
   };
   held = left_is_held S;
   kept = released_kept S;
@@ -450,7 +433,6 @@ outside_nearly_valid S moment terms more v = record {
   sole = v.sole;
   tables = v.tables;
   owns = v.owns;
-  ended = v.ended;
   numbered = v.numbered;
   made = v.made;
   made_nodes = v.made_nodes;
@@ -481,16 +463,6 @@ some_inserted m k x q h =
     elim (eqb_tells q k) [
       | inl is ↦ subst (λ j. IsSome (get (insert m k x) j)) (sym is.1) (ap is_some (get-insert-same m k x))
       | inr other ↦ ap is_some (get-insert-other m k x q other.1) ∙ h
-    ]
-
--- two maps with the same keys still have the same keys with one more
-pub same_keys_inserted : {X Y : Type 0} (m : FinMap nat_cmp X) (n : FinMap nat_cmp Y) (k : ℕ) (x : X) (y : Y)
-    → ((q : ℕ) → is_some (get m q) ≡ is_some (get n q)) → (q : ℕ) → is_some (get (insert m k x) q) ≡ is_some (get (insert n k y) q)
-same_keys_inserted m n k x y same q =
-    elim (eqb_tells q k) [
-      | inl is ↦ subst (λ j. is_some (get (insert m k x) j) ≡ is_some (get (insert n k y) j)) (sym is.1)
-          (ap is_some (get-insert-same m k x) ∙ sym (ap is_some (get-insert-same n k y)))
-      | inr other ↦ ap is_some (get-insert-other m k x q other.1) ∙ same q ∙ sym (ap is_some (get-insert-other n k y q other.1))
     ]
 
 pub set_term_nearly_valid : (S : State) (k : ℕ) (stream : Stream) → IsNearlyValid S → IsNearlyValid (put_one (set_term k stream) S)
@@ -525,13 +497,6 @@ within_named (Some kind) d e named within = (
   all_through (fits_inheriting kind) e.inheriting.0 d.inheriting.0 named.1 within.2,
 )
 
--- nothing comes from an empty table
-from_empty : (new : Table) → ComesFromTable empty new → new ≡ empty
-from_empty new from = same_numbers new empty (λ n. none_at n (get new n) refl ∙ sym (get-empty nat_cmp n)) where
-  none_at : (n : ℕ) (o : Option Descriptor) → get new n ≡ o → o ≡ None
-  none_at n None there = refl
-  none_at n (Some d) there = let old = from n d there in absurd (none_is_no old.1 (sym (get-empty nat_cmp old.0) ∙ old.2))
-
 -- a process that has a table still has one
 pub some_again : {X : Type 0} (m : FinMap nat_cmp X) (k : ℕ) (x y : X) (q : ℕ) → get m k ≡ Some x → is_some (get (insert m k y) q) ≡ is_some (get m q)
 some_again m k x y q there =
@@ -540,17 +505,15 @@ some_again m k x y q there =
       | inr other ↦ ap is_some (get-insert-other m k y q other.1)
     ]
 
--- a process may have another table, of descriptors whose opens are there, and of none where it has ended
-put_table_nearly_valid : (S : State) (p : ℕ) (old new : Table) → get S.tables p ≡ Some old
-    → ((n : ℕ) (d : Descriptor) → get new n ≡ Some d → IsNamed (get S.opens d.id) d)
-    → ((status : Status) → get S.statuses p ≡ Some status → status ≢ Live → new ≡ empty) → IsNearlyValid S → IsNearlyValid (put_one (set_table p new) S)
-put_table_nearly_valid S p old new there named bare v = record {
+-- a process may have another table, of descriptors whose opens are there
+pub table_nearly_valid : (S : State) (p : ℕ) (old new : Table) → get S.tables p ≡ Some old
+    → ((n : ℕ) (d : Descriptor) → get new n ≡ Some d → IsNamed (get S.opens d.id) d) → IsNearlyValid S → IsNearlyValid (put_one (set_table p new) S)
+table_nearly_valid S p old new there named v = record {
   named = all_named;
   behind = λ o kind e. behind_same S (put_one (set_table p new) S) (λ _. refl) (λ _ h. h) (λ _. refl) (λ _ h. h) kind (v.behind o kind e);
   sole = v.sole;
   tables = λ q. some_again S.tables p old new q there ∙ v.tables q;
   owns = v.owns;
-  ended = λ q status is ends. (still_bare q status is ends, (v.ended q status is ends).1);
   numbered = v.numbered;
   made = v.made;
   made_nodes = v.made_nodes;
@@ -569,40 +532,56 @@ put_table_nearly_valid S p old new there named bare v = record {
         | inr other ↦ v.named q n table d (sym (get-insert-other S.tables p new q other.1) ∙ at) here
       ]
 
-  still_bare : (q : ℕ) (status : Status) → get S.statuses q ≡ Some status → status ≢ Live → get (insert S.tables p new) q ≡ Some empty
-  still_bare q status is ends =
-      elim (eqb_tells q p) [
-        | inl same ↦ subst (λ k. get (insert S.tables p new) k ≡ Some empty) (sym same.1)
-            (get-insert-same S.tables p new ∙ ap Some (bare status (subst (λ k. get S.statuses k ≡ Some status) same.1 is) ends))
-        | inr other ↦ get-insert-other S.tables p new q other.1 ∙ (v.ended q status is ends).0
-      ]
-
 -- one whose descriptors come from the table
 pub set_table_nearly_valid : (S : State) (p : ℕ) (old new : Table) → get S.tables p ≡ Some old → ComesFromTable old new → IsNearlyValid S
     → IsNearlyValid (put_one (set_table p new) S)
 set_table_nearly_valid S p old new there from v =
-    put_table_nearly_valid S p old new there
+    table_nearly_valid S p old new there
     (λ n d here.
     let source = from n d here in
     subst (λ o. IsNamed (get S.opens o) d) (sym source.3.0)
     (within_named (get S.opens source.1.id) d source.1 (v.named p source.0 old source.1 there source.2) source.3))
-    (λ status is ends.
-    from_empty new (subst (λ t. ComesFromTable t new) (same_value old empty (get S.tables p) there (v.ended p status is ends).0) from))
     v
 
--- any whose descriptors' opens are there, where the process lives
-pub table_nearly_valid : (S : State) (p : ℕ) (old new : Table) → get S.tables p ≡ Some old
-    → ((status : Status) → get S.statuses p ≡ Some status → status ≢ Live → ⊥)
-    → ((n : ℕ) (d : Descriptor) → get new n ≡ Some d → IsNamed (get S.opens d.id) d) → IsNearlyValid S → IsNearlyValid (put_one (set_table p new) S)
-table_nearly_valid S p old new there lives named v =
-    put_table_nearly_valid S p old new there named (λ status is ends. absurd (lives status is ends)) v
+-- a process with a table lives, and so does one with what else is its own
+pub lives_by : (status : Option Status) → lives status ≡ true → status ≡ Some Live
+lives_by None h = absurd (not_true h)
+lives_by (Some Live) h = refl
+lives_by (Some (Exit code)) h = absurd (not_true h)
+lives_by (Some (Killed signal)) h = absurd (not_true h)
 
--- a process with a descriptor lives
-pub holder_lives : (S : State) (p n : ℕ) (table : Table) (d : Descriptor) → get S.tables p ≡ Some table → get table n ≡ Some d → IsNearlyValid S
-    → (status : Status) → get S.statuses p ≡ Some status → status ≢ Live → ⊥
-holder_lives S p n table d there here v status is ends =
-    let bare : table ≡ empty = same_value table empty (get S.tables p) there (v.ended p status is ends).0 in
-    none_is_no d (sym (get-empty nat_cmp n) ∙ ap (λ (t : Table). get t n) (sym bare) ∙ here)
+pub holder_lives : (S : State) (p : ℕ) (table : Table) → IsNearlyValid S → get S.tables p ≡ Some table → get S.statuses p ≡ Some Live
+holder_lives S p table v there = lives_by (get S.statuses p) (sym (v.tables p) ∙ ap is_some there)
+
+pub owner_lives : (S : State) (p : ℕ) (own : ProcessState) → IsNearlyValid S → get S.processes p ≡ Some own → get S.statuses p ≡ Some Live
+owner_lives S p own v there = lives_by (get S.statuses p) (sym (v.owns p) ∙ ap is_some there)
+
+pub holder_is_made : (S : State) (p : ℕ) (table : Table) → IsNearlyValid S → get S.tables p ≡ Some table → IsSome (get S.statuses p)
+holder_is_made S p table v there = ap is_some (holder_lives S p table v there)
+
+-- whether a process lives; one that doesn't has nothing of its own
+pub live_or_dead : (o : Option Status) → (o ≡ Some Live) ⊎ (o ≢ Some Live)
+live_or_dead None = inr (λ e. none_is_no Live e)
+live_or_dead (Some Live) = inl refl
+live_or_dead (Some (Exit code)) = inr (λ e. cc)
+live_or_dead (Some (Killed signal)) = inr (λ e. cc)
+
+not_living : (o : Option Status) → o ≢ Some Live → lives o ≡ false
+not_living None dead = refl
+not_living (Some Live) dead = absurd (dead refl)
+not_living (Some (Exit code)) dead = refl
+not_living (Some (Killed signal)) dead = refl
+
+pub dead_process : (S : State) (p : ℕ) → IsNearlyValid S → get S.statuses p ≢ Some Live → get S.processes p ≡ None
+dead_process S p v dead = none_of (get S.processes p) (v.owns p ∙ not_living (get S.statuses p) dead)
+
+pub dead_table : (S : State) (p : ℕ) → IsNearlyValid S → get S.statuses p ≢ Some Live → get S.tables p ≡ None
+dead_table S p v dead = none_of (get S.tables p) (v.tables p ∙ not_living (get S.statuses p) dead)
+
+-- a process that lives may still make what it has not counted
+pub owner_makes : (S : State) (p k : ℕ) (own : ProcessState) → IsNearlyValid S → get S.processes p ≡ Some own → own.counts.objects < k → IsUncounted S p k
+owner_makes S p k own v there beyond =
+    (ap has_ended (owner_lives S p own v there), subst (λ o. (counts_in o).objects < k) (sym there) beyond)
 
 -- ---- another value of an open
 
@@ -675,7 +654,7 @@ open_ends S o kind new there same c = (
 -- other opens, where none is missing that a descriptor or a channel names, and that no process is yet to make
 pub opens_nearly_valid : (S : State) (opens : FinMap nat_cmp OpenKind) → ((d : Descriptor) → IsNamed (get S.opens d.id) d → IsNamed (get opens d.id) d)
     → ((r : ℕ) (kind : OpenKind) → get opens r ≡ Some kind → HasBehind S kind) → AreSole opens
-    → ((p k : ℕ) → p < 0xffffffff → (counts_in (get S.processes p)).objects < k → k < 2 ^ 32 → get opens (object_of p k) ≡ None)
+    → ((p k : ℕ) → p < 0xffffffff → IsUncounted S p k → k < 2 ^ 32 → get opens (object_of p k) ≡ None)
     → ((c : ℕ) → KeepsEnds S.opens opens c) → IsNearlyValid S → IsNearlyValid (record S { opens = opens })
 opens_nearly_valid S opens named behind sole made keeps v = record {
   named = λ q n table d at here. named d (v.named q n table d at here);
@@ -683,7 +662,6 @@ opens_nearly_valid S opens named behind sole made keeps v = record {
   sole = sole;
   tables = v.tables;
   owns = v.owns;
-  ended = v.ended;
   numbered = v.numbered;
   made = made;
   made_nodes = v.made_nodes;
@@ -703,11 +681,9 @@ set_open_nearly_valid S o kind new there same v =
 
 -- ---- other processes
 
--- What processes have of their own after this state: each is there as it was, has no thread where it had none, has made no less, and no fewer
--- children; each thread is numbered, and waits in a call that may wait.
+-- What processes have of their own after this state: each is there as it was, and has made no less, and no fewer children; each thread is numbered, and waits in a call that may wait.
 pub record AreGrown (S : State) (after : FinMap nat_cmp ProcessState) : Type 0 where
   pub there : (q : ℕ) → is_some (get after q) ≡ is_some (get S.processes q)
-  pub bare : (q : ℕ) → threads_of S q ≡ Some empty → threads_in (get after q) ≡ Some empty
   pub numbered : (q t : ℕ) → IsSome (thread_in (threads_in (get after q)) t) → t ≤ (counts_in (get after q)).threads
   pub waits : (q t : ℕ) → MayWait (thread_in (threads_in (get after q)) t)
   pub more : (q : ℕ) → (counts_in (get S.processes q)).objects ≤ (counts_in (get after q)).objects
@@ -720,13 +696,17 @@ processes_nearly_valid S after grown v = record {
   sole = v.sole;
   tables = v.tables;
   owns = λ q. grown.there q ∙ v.owns q;
-  ended = λ q status is ends. ((v.ended q status is ends).0, grown.bare q (v.ended q status is ends).1);
   numbered = grown.numbered;
-  made = λ q k small beyond fits. v.made q k small (let more = grown.more q in omega (arith, more, beyond)) fits;
-  made_nodes = λ q k small beyond fits. v.made_nodes q k small (let more = grown.more q in omega (arith, more, beyond)) fits;
-  born = all_born S.processes after grown.children v.born;
+  made = λ q k small beyond fits. v.made q k small (uncounted q k beyond) fits;
+  made_nodes = λ q k small beyond fits. v.made_nodes q k small (uncounted q k beyond) fits;
+  born = all_born S.statuses S.statuses S.processes after (λ _ h. h) (λ _ h. h) grown.children v.born;
   tree = v.tree;
   waits = grown.waits;
   channels = v.channels;
-  made_channels = λ q k small beyond fits. v.made_channels q k small (let more = grown.more q in omega (arith, more, beyond)) fits;
-}
+  made_channels = λ q k small beyond fits. v.made_channels q k small (uncounted q k beyond) fits;
+} where
+  uncounted : (q k : ℕ) → IsUncounted (record S { processes = after }) q k → IsUncounted S q k
+  uncounted q k beyond =
+      let more = grown.more q in
+      let less : (counts_in (get after q)).objects < k = beyond.1 in
+      (beyond.0, omega (arith, more, less))

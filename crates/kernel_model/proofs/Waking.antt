@@ -10,8 +10,7 @@ use Rattle.std.proofs.Common.{◌≡◌, ◌≢◌, ◌⊎◌, ℕ, ◌+◌, Boo
 use Rattle.std.proofs.lemmas.Bool.Decides.{eqb_tells}
 use Rattle.std.specs.Prelude.{if◌then◌else◌}
 use Rattle.std.specs.Option.{option_map}
-use Rattle.std.specs.Ordering.{nat_cmp}
-use Rattle.std.specs.FinMap.{get, get-empty, empty}
+use Rattle.std.specs.FinMap.{get}
 use Rattle.abi_base.specs.declared.errno.Errno.TheVariants.{Fault, Nomem, Success}
 use Rattle.abi_structures.specs.declared.events.Subscription.{Subscription}
 use Rattle.abi_structures.specs.declared.events.What.{What}
@@ -25,7 +24,7 @@ use Rattle.abi_types.specs.declared.reply.Answer.TheVariants as answer
 use Rattle.abi_types.specs.declared.reply.Reply.{Reply}
 use Rattle.abi_types.specs.declared.thread.Stage.TheVariants.{Queued}
 use Rattle.abi_types.specs.declared.status.Status.{Status}
-use Rattle.abi_types.specs.declared.status.Status.TheVariants.{Live, Exit, Killed}
+use Rattle.abi_types.specs.declared.status.Status.TheVariants.{Live}
 use Rattle.abi_types.specs.declared.thread.Thread.{Thread}
 use Rattle.abi_types.specs.declared.thread.Thread.TheVariants.{Runnable, Waits}
 use Rattle.abi_types.specs.declared.wake.WakeIn.{WakeIn}
@@ -34,20 +33,17 @@ use Rattle.abi_types.specs.declared.who.Who.{Who}
 use Rattle.kernel_model.specs.Calls.{meaning_of}
 use Rattle.kernel_model.specs.Deadlines.{is_due}
 use Rattle.kernel_model.specs.Families.Locks.{with_word}
-use Rattle.kernel_model.specs.Families.ProcessCalls.{ended_process}
 use Rattle.kernel_model.specs.Laws.{HasSameProcess, IsKilled, MovesOnly}
 use Rattle.kernel_model.specs.Outcome.{is_parked}
 use Rattle.kernel_model.specs.OwnChanges.{next_child}
 use Rattle.kernel_model.specs.Reply.{refused}
-use Rattle.kernel_model.specs.State.{State, ProcessState, Part, Threads, counts_in, has_part, Agree, threads_of, thread_in, thread_of}
-use Rattle.kernel_model.specs.Release.{ends, is_killed, process_left}
-use Rattle.kernel_model.specs.Step.{tick, end_state, end_unreleased, step_answer, step_state, touch, IsStep, IsUntouched}
+use Rattle.kernel_model.specs.State.{State, ProcessState, Part, Threads, counts_in, has_part, Agree, thread_in, thread_of}
+use Rattle.kernel_model.specs.Step.{tick, end_state, step_answer, step_state, touch, IsStep, IsUntouched}
 use Rattle.kernel_model.specs.Threads.{child_made, ends_caller, ends_others, makes_child, makes_thread, moves_waiters, IsCallerAfter, IsMoved, LeavesCounts, LeavesThreads}
 use Rattle.kernel_model.specs.Valid.{IsValid}
 use Rattle.kernel_model.specs.WaitLaws.{IsOfLock, ResumesOnly, WakesOnly}
 use Rattle.kernel_model.specs.Waits.{resumed, waiting, HasDeadline, HasDeadlines, MayWait, WaitsIn}
 use Rattle.kernel_model.specs.Wakes.{answer_now, goes_on_at, is_done_now, is_ready, may_queue, woken, IsWake}
-use Rattle.kernel_model.proofs.Ends.{process_after}
 use Rattle.kernel_model.proofs.Moving.{moved_as_may, moved_runs}
 use Rattle.kernel_model.proofs.Outcomes.{outcome_reads}
 use Rattle.kernel_model.proofs.Parts.{agree_through}
@@ -58,8 +54,7 @@ use Rattle.kernel_model.proofs.Tests.{none_is_no, not_true, same_some}
 use Rattle.kernel_model.proofs.Threading.{each_of, thread_apart, thread_here, with_apart, with_counts, with_keeps, with_valid}
 use Rattle.kernel_model.proofs.Threads.{leaves_counts, undone_allows, undone_stays, waited_keeps}
 use Rattle.kernel_model.proofs.Touches.{others_stay, outside_own, tick_keeps, outside_clock}
-use Rattle.kernel_model.proofs.EndedValid.{threads_at}
-use Rattle.kernel_model.proofs.Valids.{tick_valid}
+use Rattle.kernel_model.proofs.Valids.{dead_process, live_or_dead, tick_valid}
 use Rattle.kernel_model.proofs.WokenCalls.{counts_by_word, may_queue_by, parked_lasts, queueing, queueing_at, same_by_word, same_condition, undone_moves, waited_moves, word_unread}
 
 -- ---- the wake of a ready thread
@@ -138,13 +133,7 @@ resumed_other S who q apart = (refl, with_apart S who.pid who.tid Runnable q apa
 others_through : (S R T : State) (q : ℕ) → HasSameProcess R S q → HasSameProcess T R q ⊎ IsKilled R T q → HasSameProcess T S q ⊎ IsKilled S T q
 others_through S R T q same (inl kept) = inl (kept.0 ∙ same.0, kept.1 ∙ same.1, kept.2 ∙ same.2)
 others_through S R T q same (inr killed) =
-    inr (
-      (
-        killed.0.0 ∙ ap (option_map (λ table. empty)) same.0,
-        killed.0.1 ∙ ap (option_map (λ (own : ProcessState). ended_process (Some own))) same.1,
-      ),
-      (sym same.2 ∙ killed.1.0, killed.1.1),
-    )
+    inr (killed.0, (sym same.2 ∙ killed.1.0, killed.1.1))
 
 always_runs : (o : Option Thread) → IsSome o → option_map (λ (before : Thread). Runnable) o ≡ Some Runnable
 always_runs None there = absurd (not_true there)
@@ -211,8 +200,8 @@ resumed_moves constants S who call word answered T queues moves =
       made = λ live t none there. (
           let makes = (moves.threads live).made t (none_resumed S who t none) there in
           (sym same.thread ∙ makes.0, makes.1 ∙ ap (λ (c : Counts). c.threads + 1) (with_counts S who.pid who.tid Runnable who.pid), makes.2));
-      counts = counts_by_word word call answered (counts_in (get S.processes who.pid)) (counts_in (get T.processes who.pid))
-          (subst (λ (c : Counts). LeavesCounts C answered c (counts_in (get T.processes who.pid))) (with_counts S who.pid who.tid Runnable who.pid) moves.counts);
+      counts = λ live. counts_by_word word call answered (counts_in (get S.processes who.pid)) (counts_in (get T.processes who.pid))
+          (subst (λ (c : Counts). LeavesCounts C answered c (counts_in (get T.processes who.pid))) (with_counts S who.pid who.tid Runnable who.pid) (moves.counts live));
     }
 
 -- a call that is refused with FAULT does not end its thread
@@ -229,7 +218,7 @@ fault_counts S who call answered is =
     (subst (λ c. LeavesCounts call (answer.Reply (refused Fault)) c (counts_in (get (resumed S who).processes who.pid))) (with_counts S who.pid who.tid Runnable who.pid)
     (leaves_counts call (answer.Reply (refused Fault)) who.pid who.tid (resumed S who) (tick (resumed S who))
     (undone_allows change who.tid (answer.Reply (refused Fault)) (get (resumed S who).processes who.pid) refl)
-    (inl (undone_stays change who.tid (answer.Reply (refused Fault)) refl refl (get (resumed S who).processes who.pid)))))
+    (undone_stays change who.tid (answer.Reply (refused Fault)) refl refl (get (resumed S who).processes who.pid))))
 
 pub wake_moves_only : (constants : Constants) (S : State) (who : Who) (call : Call) (given : WakeIn) (answered : Answer) (T : State)
     → IsWake constants S who call given answered T → WakesOnly S who call answered T
@@ -243,7 +232,7 @@ wake_moves_only constants S who call wake.Fault answered T is =
       queues = λ live there parked. absurd (not_true (sym (ap is_parked is.0) ∙ parked));
       threads = λ live t apart there lasts still. thread_apart S who.pid who.tid Runnable t apart;
       made = λ live t none there. absurd (not_true (subst IsSome (none_resumed S who t none) there));
-      counts = fault_counts S who call answered is.0;
+      counts = λ live. fault_counts S who call answered is.0;
     })
 
 -- what waits waits in a call in which it may, so its wake makes and ends no thread
@@ -300,28 +289,8 @@ wake_keeps_made constants S who call wake.Fault answered T q is made = subst (λ
 abbrev threads_in : Option ProcessState → Option Threads
 threads_in own = option_map (λ (x : ProcessState). x.threads) own
 
-none_in : (own : Option ProcessState) (t : ℕ) → is_some own ≡ false → thread_in (threads_in own) t ≡ None
-none_in None t none = refl
-none_in (Some own) t none = absurd (not_true (sym none))
-
-bare_in : (o : Option Threads) (t : ℕ) → o ≡ Some empty → thread_in o t ≡ None
-bare_in o t bare = ap (λ x. thread_in x t) bare ∙ get-empty nat_cmp t
-
-pub ended_thread : (T : State) (p t : ℕ) (o : Option Status) → IsValid T → get T.statuses p ≡ o → o ≢ Some Live → thread_of T p t ≡ None
-ended_thread T p t None valid is dead = none_in (get T.processes p) t (valid.nearly.owns p ∙ ap is_some is)
-ended_thread T p t (Some status) valid is dead =
-    bare_in (threads_of T p) t (valid.nearly.ended p status is (λ live. dead (ap Some live))).1
-
--- whether a process lives
-live_or_dead : (o : Option Status) → (o ≡ Some Live) ⊎ (o ≢ Some Live)
-live_or_dead None = inr (λ e. none_is_no Live e)
-live_or_dead (Some Live) = inl refl
-live_or_dead (Some (Exit code)) = inr (λ e. cc)
-live_or_dead (Some (Killed signal)) = inr (λ e. cc)
-
-killed_threads : (o : Option ProcessState) (t : ℕ) → thread_in (threads_in (option_map (λ (own : ProcessState). ended_process (Some own)) o)) t ≡ None
-killed_threads None t = refl
-killed_threads (Some own) t = get-empty nat_cmp t
+pub ended_thread : (T : State) (p t : ℕ) → IsValid T → get T.statuses p ≢ Some Live → thread_of T p t ≡ None
+ended_thread T p t valid dead = ap (λ o. thread_in (threads_in o) t) (dead_process T p valid.nearly dead)
 
 -- a thread that comes with the step of another runs
 comes_or_not : (constants : Constants) (S : State) (who : Who) (call : Call) (given : Answer) (T : State) → LeavesThreads constants S who call given T
@@ -347,7 +316,7 @@ other_after constants S who call given T step valid t apart =
                   | false ↦ λ stays. inr (leaves.others t apart (ap is_some e) stays)
                 ] refl
           ] refl)
-      | inr dead ↦ inl (inl (ended_thread T who.pid t (get T.statuses who.pid) valid refl dead))
+      | inr dead ↦ inl (inl (ended_thread T who.pid t valid dead))
     ]
 
 -- what the caller does after its step: nothing, or what its answer says
@@ -363,7 +332,7 @@ caller_after constants S who call given T step valid =
             | true ↦ λ ends. inl (leaves.ended ends)
             | false ↦ λ lasts. inr (leaves.caller lasts)
           ] refl)
-      | inr dead ↦ inl (ended_thread T who.pid who.tid (get T.statuses who.pid) valid refl dead)
+      | inr dead ↦ inl (ended_thread T who.pid who.tid valid dead)
     ]
 
 -- the process is the child, or it is not
@@ -375,25 +344,15 @@ same_child p (Some q) =
       | inr other ↦ inr (λ is. other.1 (same_some q p is))
     ]
 
-left_threads : (killed : Bool) (o : Option ProcessState) (t : ℕ) → thread_in (threads_in o) t ≡ None
-    → thread_in (threads_in (option_map (process_left killed) o)) t ≡ None
-left_threads killed None t bare = refl
-left_threads true (Some own) t bare = get-empty nat_cmp t
-left_threads false (Some own) t bare = bare
-
 -- a process that ends from outside has no thread
-end_threads : (S : State) (p : ℕ) (status : Status) (t : ℕ) → thread_of (end_state S p status) p t ≡ None
-unfolding end_state
-end_threads S p status t =
-    let U = end_unreleased S p status in
-    ap (λ o. thread_in (threads_in o) t) (process_after U (ends U) p)
-    ∙ left_threads (is_killed U (ends U) p) (get U.processes p) t (bare_in (threads_of U p) t (threads_at (tick S) p status))
+end_threads : (S : State) (p : ℕ) (status : Status) (t : ℕ) → status ≢ Live → thread_of (end_state S p status) p t ≡ None
+end_threads S p status t dead = ap (λ o. thread_in (threads_in o) t) (end_ends_only S p status dead).gone.1
 
 module _ (P : ℕ → ℕ → Option Thread → Type 0) (none : (p t : ℕ) → P p t None) where
   other_thread : (S T : State) (q t : ℕ) → HasSameProcess T S q ⊎ IsKilled S T q → P q t (thread_of S q t) → P q t (thread_of T q t)
   other_thread S T q t (inl same) before = subst (P q t) (sym (ap (λ o. thread_in (threads_in o) t) same.1)) before
   other_thread S T q t (inr killed) before =
-      subst (P q t) (sym (ap (λ o. thread_in (threads_in o) t) killed.0.1 ∙ killed_threads (get S.processes q) t)) (none q t)
+      subst (P q t) (sym (ap (λ o. thread_in (threads_in o) t) killed.0.1)) (none q t)
 
   -- it holds still of a thread that is given its lock or is signalled
   abbrev HoldsStill : Type 0
@@ -442,7 +401,7 @@ module _ (P : ℕ → ℕ → Option Thread → Type 0) (none : (p t : ℕ) → 
       let ends = end_ends_only S p status dead in
       elim (eqb_tells q p) [
         | inl is ↦ subst (λ k. P k t (thread_of (end_state S p status) k t)) (sym is.1)
-            (subst (P p t) (sym (end_threads S p status t)) (none p t))
+            (subst (P p t) (sym (end_threads S p status t dead)) (none p t))
         | inr other ↦ other_thread S (end_state S p status) q t (ends.others q other.1) (before q t)
       ]
 

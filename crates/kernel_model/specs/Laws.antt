@@ -163,19 +163,19 @@ ErrorKeeps =
 abbrev pub HasSameProcess : State → State → ℕ → Type 0
 HasSameProcess S T q = (get S.tables q ≡ get T.tables q) × (get S.processes q ≡ get T.processes q) × (get S.statuses q ≡ get T.statuses q)
 
--- From the first state to the second the release has killed the process: it lived, an open of it ended, and it has no descriptor
--- and no thread left.
+-- From the first state to the second the release has killed the process: it lived, an open of it ended, and it has nothing of its
+-- own any more.
 abbrev pub IsKilled : State → State → ℕ → Type 0
 IsKilled S T q = IsEnded S T (at_proc q) × IsEnded S T (at_status q)
 
 -- A step takes 1000 nanoseconds, changes nothing of other processes but of those that the release after it kills and of the child that its
--- call makes, changes the threads of a process that lives on as its call and its answer say, and counts what the call makes.
+-- call makes, and of a process that lives on changes the threads as its call and its answer say, and counts what the call makes.
 pub record MovesOnly (constants : Constants) (S : State) (who : Who) (call : Call) (given : Answer) (T : State) : Type 0 where
   pub clock : T.clock ≡ S.clock + 1000
   pub others : (q : ℕ) → q ≢ who.pid → child_made call given who.pid (get S.processes who.pid) ≢ Some q → HasSameProcess T S q ⊎ IsKilled S T q
   pub born : BearsRunning who.pid call given S T
   pub threads : get T.statuses who.pid ≡ Some Live → LeavesThreads constants S who call given T
-  pub counts : LeavesCounts call given (counts_in (get S.processes who.pid)) (counts_in (get T.processes who.pid))
+  pub counts : get T.statuses who.pid ≡ Some Live → LeavesCounts call given (counts_in (get S.processes who.pid)) (counts_in (get T.processes who.pid))
 
 abbrev pub StepMovesOnly : Type 0
 StepMovesOnly =
@@ -195,11 +195,12 @@ WaitedKeepsThreads =
     → (ends_caller call given ≡ false) × (ends_others call given ≡ false) × (makes_thread call given ≡ false) × (makes_child call given ≡ false)
 
 -- The end of a process from outside takes as long, changes nothing of other processes but of those that the release after it kills,
--- and leaves it its status.
+-- and leaves it its status alone.
 pub record EndsOnly (S : State) (p : ℕ) (status : Status) (T : State) : Type 0 where
   pub clock : T.clock ≡ S.clock + 1000
   pub others : (q : ℕ) → q ≢ p → HasSameProcess T S q ⊎ IsKilled S T q
   pub stands : get T.statuses p ≡ Some status
+  pub gone : (get T.tables p ≡ None) × (get T.processes p ≡ None)
 
 abbrev pub EndStateEndsOnly : Type 0
 EndStateEndsOnly = (S : State) (p : ℕ) (status : Status) → status ≢ Live → EndsOnly S p status (end_state S p status)
@@ -395,7 +396,7 @@ StepKeepsValid =
 
 -- The end from outside of a process that was made leaves a valid state valid.
 abbrev pub EndKeepsValid : Type 0
-EndKeepsValid = (S : State) (p : ℕ) (status : Status) → IsSome (get S.statuses p) → IsValid S → IsValid (end_state S p status)
+EndKeepsValid = (S : State) (p : ℕ) (status : Status) → IsSome (get S.statuses p) → status ≢ Live → IsValid S → IsValid (end_state S p status)
 
 -- The state that a launch starts from is valid, where it may begin with its tree and its grants.
 abbrev pub StartIsValid : Type 0

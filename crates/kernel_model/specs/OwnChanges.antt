@@ -1,6 +1,6 @@
 -- What a call does to what its process has of its own beside its descriptors: its threads, and how much it has made so far.
 use Rattle.std.specs.Prelude.{◌≡◌, ◌≢◌, ◌⊎◌, ⊤, ℕ, ◌+◌, ◌==◌, ◌&&◌, nat_lt, Bool, true, false, List, [], ◌∷◌, ◌++◌, Option, None, Some, IsSome, if◌then◌else◌}
-use Rattle.std.specs.FinMap.{empty, get, insert, remove, retain_keys}
+use Rattle.std.specs.FinMap.{get, insert, remove, retain_keys}
 use Rattle.std.specs.Option.{option_map}
 use Rattle.abi_base.specs.declared.errno.Errno.{Errno}
 use Rattle.abi_base.specs.declared.errno.Errno.TheVariants.{Success}
@@ -12,7 +12,7 @@ use Rattle.abi_types.specs.declared.thread.Thread.TheVariants.{Runnable}
 use Rattle.kernel_model.specs.Families.Children.{child_of}
 use Rattle.kernel_model.specs.Families.Numbers.{made_more, new_parts}
 use Rattle.kernel_model.specs.Families.Locks.{handed_own, signalled_own, unlocked_own}
-use Rattle.kernel_model.specs.State.{State, ProcessState, Part, at_proc, at_status, counts_in, depth_in}
+use Rattle.kernel_model.specs.State.{State, ProcessState, Part, at_proc, at_status}
 
 -- ---- changes of a process
 
@@ -44,10 +44,6 @@ begun_anew words t own = record {
   counts = record own.counts { words = own.counts.words + words };
   depth = own.depth;
 }
-
--- what an ended process has left: no thread, its counts, and its depth
-abbrev pub ended_process : Option ProcessState → ProcessState
-ended_process own = record { threads = empty; counts = counts_in own; depth = depth_in own }
 
 -- ---- what a call does
 
@@ -98,10 +94,6 @@ own_by (hands_lock_on lock) t given own = if begins_to_sleep given then handed_o
 abbrev pub IsChangedBy : (ProcessState → ProcessState) → Option ProcessState → Option ProcessState → Type 0
 IsChangedBy f before after = (objects : ℕ) × (after ≡ option_map (λ own. made_more objects (f own)) before)
 
--- the process has changed so, and has ended with it
-abbrev pub HasEndedBy : (ProcessState → ProcessState) → Option ProcessState → Option ProcessState → Type 0
-HasEndedBy f before after = after ≡ Some (ended_process (option_map f before))
-
 -- the process is there and has the thread t, and no thread has the number of its next one
 abbrev pub HasNextFree : ℕ → Option ProcessState → Type 0
 HasNextFree t None = ⊥
@@ -120,11 +112,11 @@ AllowsChange (lets_lock_go lock word) t given before = ⊤
 AllowsChange (signals_some condvar n) t given before = ⊤
 AllowsChange (hands_lock_on lock) t given before = ⊤
 
--- after a call of the thread t of process p that was answered so the process has changed as the call does, and may have ended with it
+-- after a call of the thread t of process p that was answered so the process has changed as the call does, or has ended with it
 abbrev pub LeavesOwn : OwnChange → ℕ → ℕ → Answer → State → State → Type 0
 LeavesOwn change p t given S T =
     IsChangedBy (own_by change t given) (get S.processes p) (get T.processes p)
-    ⊎ ((get T.statuses p ≢ Some Live) × HasEndedBy (own_by change t given) (get S.processes p) (get T.processes p))
+    ⊎ ((get T.statuses p ≢ Some Live) × (get T.processes p ≡ None))
 
 -- ---- children
 

@@ -1,7 +1,7 @@
 -- What ends because nothing holds it any more: opens, the processes that they are of, what waits in the channels that they read, what
 -- these held in turn, and the nodes to which nothing leads any more.
 use Rattle.std.specs.Prelude.{◌≡◌, ℕ, ◌+◌, ◌<◌, ◌==◌, ◌&&◌, ◌||◌, not, Bool, true, false, List, [], ◌∷◌, Option, None, Some, IsSome, if◌then◌else◌}
-use Rattle.std.specs.FinMap.{get, empty, retain_keys}
+use Rattle.std.specs.FinMap.{get, retain_keys}
 use Rattle.std.specs.List.{list_any}
 use Rattle.std.specs.Option.{option_map}
 use Rattle.abi_base.specs.declared.signal.Signal.TheVariants.{Kill}
@@ -14,8 +14,7 @@ use Rattle.maps.specs.Closure.{member, closure, changed}
 use Rattle.maps.specs.Maps.{total}
 use Rattle.tree_model.specs.Opens.{is_used}
 use Rattle.kernel_model.specs.Channels.{Send, Channel, channel_left, is_over}
-use Rattle.kernel_model.specs.Families.ProcessCalls.{ended_process}
-use Rattle.kernel_model.specs.State.{State, Table, ProcessState, tree_of, Part, at_proc, at_status, at_open, at_node, at_names, at_chan}
+use Rattle.kernel_model.specs.State.{State, Table, tree_of, Part, at_proc, at_status, at_open, at_node, at_names, at_chan}
 
 -- 1 where the descriptor names the open, else 0
 abbrev pub names_open : ℕ → Descriptor → ℕ
@@ -81,14 +80,10 @@ loses_reader S ended c = list_any (λ o. is_reader c (get S.opens o)) ended
 abbrev pub loses_writer : State → List ℕ → ℕ → Bool
 loses_writer S ended c = list_any (λ o. is_writer c (get S.opens o)) ended
 
--- what a process has left, as it is killed or not: its descriptors, what else is its own, and its status
-abbrev pub table_left : Bool → Table → Table
-table_left true table = empty
-table_left false table = table
-
-abbrev pub process_left : Bool → ProcessState → ProcessState
-process_left true own = ended_process (Some own)
-process_left false own = own
+-- what a process has left, as it is killed or not: nothing of its own, and its status
+abbrev pub own_left : {X : Type 0} → Bool → Option X → Option X
+own_left true own = None
+own_left false own = own
 
 abbrev pub status_left : Bool → Status → Status
 status_left true status = Killed Kill
@@ -98,8 +93,8 @@ status_left false status = status
 -- channel the channel has lost that side. What a standard stream's open reaches stays.
 abbrev pub without : List ℕ → State → State
 without ended S = record S {
-  tables = changed (λ p. table_left (is_killed S ended p)) S.tables;
-  processes = changed (λ p. process_left (is_killed S ended p)) S.processes;
+  tables = retain_keys S.tables (λ p. not (is_killed S ended p));
+  processes = retain_keys S.processes (λ p. not (is_killed S ended p));
   statuses = changed (λ p. status_left (is_killed S ended p)) S.statuses;
   opens = retain_keys S.opens (λ o. not (member o ended));
   chans = changed (λ c. channel_left (loses_reader S ended c) (loses_writer S ended c)) S.chans;
@@ -166,13 +161,11 @@ kept_channel channel = if is_channel_kept channel then channel else None
 abbrev pub AllAreHeld : State → Type 0
 AllAreHeld S = (o : ℕ) → IsSome (get S.opens o) → 0 < holders S o + carriers S o
 
--- What the release makes of a part that it ends. A process that is killed was live; it has no descriptor and no thread left, nobody
--- waits in it, its counts stay, and its status says how it ended. An open, a node and the names in it are gone. A channel has lost a
--- side, or both, and is gone where it has neither.
+-- What the release makes of a part that it ends. A process that is killed was live; nothing is left of what it had of its own, and its
+-- status says how it ended. An open, a node and the names in it are gone. A channel has lost a side, or both, and is gone where it has
+-- neither.
 abbrev pub IsEnded : State → State → Part → Type 0
-IsEnded S T (at_proc p) =
-    (get T.tables p ≡ option_map (λ (table : Table). empty) (get S.tables p))
-    × (get T.processes p ≡ option_map (λ (own : ProcessState). ended_process (Some own)) (get S.processes p))
+IsEnded S T (at_proc p) = (get T.tables p ≡ None) × (get T.processes p ≡ None)
 IsEnded S T (at_status p) = (get S.statuses p ≡ Some Live) × (get T.statuses p ≡ Some (Killed Kill))
 IsEnded S T (at_open o) = get T.opens o ≡ None
 IsEnded S T (at_node n) = get T.nodes n ≡ None

@@ -1,7 +1,7 @@
 -- The state of a kernel: what it keeps between two calls.
 use Rattle.std.specs.Prelude.{◌≡◌, ℕ, ◌==◌, ◌||◌, Bool, true, false, List, [], ◌∷◌, Option, None, Some}
 use Rattle.std.specs.Ordering.{nat_cmp}
-use Rattle.std.specs.FinMap.{FinMap, empty, get, insert}
+use Rattle.std.specs.FinMap.{FinMap, empty, get, insert, remove}
 use Rattle.std.specs.Option.{option_map}
 use Rattle.abi_types.specs.declared.counts.Counts.{Counts}
 use Rattle.abi_types.specs.declared.node.Node.{Node}
@@ -24,8 +24,9 @@ pub record ProcessState : Type 0 where
   pub counts : Counts
   pub depth : ℕ
 
--- the moment in nanoseconds; each process's descriptors, what else it has of its own, and its status; the opens that
--- descriptors name; the nodes of the file tree, and the names in each directory; the standard streams; and the channels
+-- The moment in nanoseconds; the descriptors of each process that lives, and what else it has of its own; the status of each process
+-- that was made; the opens that descriptors name; the nodes of the file tree, and the names in each directory; the standard streams; and
+-- the channels.
 pub record State : Type 0 where
   pub clock : ℕ
   pub tables : FinMap nat_cmp Table
@@ -55,7 +56,7 @@ no_state = record {
 abbrev pub tree_of : State → Tree
 tree_of S = record { nodes = S.nodes; names = S.names }
 
--- a process's live threads, if it was ever made
+-- a process's live threads, if it lives
 abbrev pub threads_of : State → ℕ → Option Threads
 threads_of S p = option_map (λ (own : ProcessState). own.threads) (get S.processes p)
 
@@ -76,19 +77,14 @@ written_in (Some stream) = stream.written
 abbrev pub written_to : ℕ → State → List ℕ
 written_to which S = written_in (get S.terms which)
 
--- what a process that was never made has made
+-- what is counted of a process that doesn't live
 abbrev pub no_counts : Counts
 no_counts = record { objects = 0; threads = 0; forks = 0; words = 0 }
 
--- what a process has made so far
+-- what a process has made so far, if it lives
 abbrev pub counts_in : Option ProcessState → Counts
 counts_in None = no_counts
 counts_in (Some own) = own.counts
-
--- its depth; one that was never made has none, and 0 stands for that
-abbrev pub depth_in : Option ProcessState → ℕ
-depth_in None = 0
-depth_in (Some own) = own.depth
 
 -- A state is a map from parts to values. Its parts are the clock, what a process has of its own (descriptors,
 -- threads and counts), its status, an open, a node, the names in a directory, a standard stream, and a channel.
@@ -135,10 +131,11 @@ abbrev pub AgreeOn : State → State → List Part → Type 0
 AgreeOn S T [] = Unit {0}
 AgreeOn S T (part ∷ parts) = Agree S T part × AgreeOn S T parts
 
--- a new value of one part
+-- a new value of one part, or that a process has nothing of its own any more
 pub data Update : Type 0 where
   set_table : ℕ → Table → Update
   set_process : ℕ → ProcessState → Update
+  drop_own : ℕ → Update
   set_status : ℕ → Status → Update
   set_open : ℕ → OpenKind → Update
   set_node : ℕ → Node → Update
@@ -150,6 +147,7 @@ pub data Update : Type 0 where
 abbrev pub part_of : Update → Part
 part_of (set_table p t) = at_proc p
 part_of (set_process p own) = at_proc p
+part_of (drop_own p) = at_proc p
 part_of (set_status p s) = at_status p
 part_of (set_open o kind) = at_open o
 part_of (set_node n node) = at_node n
@@ -161,6 +159,7 @@ part_of (set_chan c channel) = at_chan c
 abbrev pub put_one : Update → State → State
 put_one (set_table p t) S = record S { tables = insert S.tables p t }
 put_one (set_process p own) S = record S { processes = insert S.processes p own }
+put_one (drop_own p) S = record S { tables = remove S.tables p; processes = remove S.processes p }
 put_one (set_status p s) S = record S { statuses = insert S.statuses p s }
 put_one (set_open o kind) S = record S { opens = insert S.opens o kind }
 put_one (set_node n node) S = record S { nodes = insert S.nodes n node }

@@ -132,7 +132,7 @@ IsUntouched constants S who call part =
 -- ---- the end of a process from outside, by a trap or at the end of its turns
 
 abbrev pub end_unreleased : State → ℕ → Status → State
-end_unreleased S p status = put_all (end_updates p (get S.processes p) status) (tick S)
+end_unreleased S p status = put_all (end_updates p status) (tick S)
 
 unfoldable pub end_state : State → ℕ → Status → State
 end_state S p status = release (end_unreleased S p status)

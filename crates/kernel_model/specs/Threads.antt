@@ -115,8 +115,8 @@ threads_made call given = if makes_thread call given then 1 else 0
 abbrev pub children_made : Call → Answer → ℕ
 children_made call given = if makes_child call given then 1 else 0
 
--- A process has numbered as many threads more as its call makes, drawn as many random words more as the call draws, and counted as many
--- children more as the call makes. It has made no fewer objects. That it has ended with the call changes none of that.
+-- A process that lives on has numbered as many threads more as its call makes, drawn as many random words more as the call draws, and
+-- counted as many children more as the call makes. It has made no fewer objects.
 pub record LeavesCounts (call : Call) (given : Answer) (before after : Counts) : Type 0 where
   pub threads : after.threads ≡ before.threads + threads_made call given
   pub words : after.words ≡ before.words + words_drawn call given

@@ -1,21 +1,21 @@
 -- States that a kernel may be in.
-use Rattle.std.specs.Prelude.{◌≡◌, ◌≢◌, ℕ, ◌+◌, ◌^◌, ◌<◌, ◌≤◌, ◌||◌, Bool, true, Option, None, Some, IsSome, is_some, ⊤}
+use Rattle.std.specs.Prelude.{◌≡◌, ◌≢◌, ℕ, ◌+◌, ◌^◌, ◌<◌, ◌≤◌, ◌||◌, Bool, true, false, Option, None, Some, IsSome, is_some, ⊤}
 use Rattle.std.specs.Ordering.{nat_cmp}
-use Rattle.std.specs.FinMap.{FinMap, get, empty}
+use Rattle.std.specs.FinMap.{FinMap, get}
 use Rattle.std.specs.List.{AllByRecursion}
 use Rattle.abi_types.specs.declared.descriptor.Descriptor.{Descriptor}
 use Rattle.abi_types.specs.declared.open_kind.OpenKind.{OpenKind}
 use Rattle.abi_types.specs.declared.open_kind.OpenKind.TheVariants as kind
 use Rattle.abi_types.specs.declared.status.Status.{Status}
-use Rattle.abi_types.specs.declared.status.Status.TheVariants.{Live}
+use Rattle.abi_types.specs.declared.status.Status.TheVariants.{Live, Exit, Killed}
 use Rattle.tree_model.specs.Changes.{is_file}
 use Rattle.tree_model.specs.Tree.{IsTree, is_directory}
 use Rattle.kernel_model.specs.Channels.{Channel, IsChannel, carried_of, Gone}
-use Rattle.kernel_model.specs.Families.Children.{IsBorn}
+use Rattle.kernel_model.specs.Families.Children.{AreBorn}
 use Rattle.kernel_model.specs.Families.Numbers.{object_of}
 use Rattle.kernel_model.specs.Fits.{HasRightsOf}
-use Rattle.kernel_model.specs.Release.{holders, carriers, is_channel_kept, is_node_kept, is_of_process, is_reader, is_writer}
-use Rattle.kernel_model.specs.State.{State, ProcessState, Table, tree_of, threads_of, thread_of, counts_in}
+use Rattle.kernel_model.specs.Release.{holders, carriers, is_channel_kept, is_node_kept, is_of_process, is_reader, is_writer, lives}
+use Rattle.kernel_model.specs.State.{State, Table, tree_of, thread_of, counts_in}
 use Rattle.kernel_model.specs.Waits.{MayWait}
 
 -- the open is there, and the descriptor's rights are among those of its type
@@ -61,25 +61,35 @@ pub record IsJoined (opens : FinMap nat_cmp OpenKind) (c : ℕ) (channel : Chann
 abbrev pub AreJoined : FinMap nat_cmp OpenKind → FinMap nat_cmp Channel → Type 0
 AreJoined opens chans = (c : ℕ) (channel : Channel) → get chans c ≡ Some channel → IsJoined opens c channel
 
+-- whether a process with this status has ended: then it makes nothing any more
+abbrev pub has_ended : Option Status → Bool
+has_ended None = false
+has_ended (Some Live) = false
+has_ended (Some (Exit code)) = true
+has_ended (Some (Killed signal)) = true
+
+-- the process may still make its k-th object: it lives and has not counted so many, or it was never made
+abbrev pub IsUncounted : State → ℕ → ℕ → Type 0
+IsUncounted S p k = (has_ended (get S.statuses p) ≡ false) × ((counts_in (get S.processes p)).objects < k)
+
 -- All of validity but that each open is held and each node has a name or an open: what each call keeps before the release,
 -- which brings the rest. Each descriptor's open is there with its rights, each open has what stands behind it, and no two opens are of
--- one process, read one channel or write one. A process has a table, what is its own and a status, or none of these, and an ended
--- process has no descriptor and no thread. No thread that a process has, and no open, no node and no channel that it made, is numbered
--- beyond its count. Each process but process 0 is a child that another one has counted. The file tree is a tree. A thread waits only in a
+-- one process, read one channel or write one. Just the processes that live have a table and what else is their own. No thread that a
+-- process has is numbered beyond its count, and no open, no node and no channel is there that a process may still make. Each process that
+-- was made but process 0 is a child of another one, which has counted it if it lives. The file tree is a tree. A thread waits only in a
 -- call in which it may, and its wait may have come so far. Each channel is one that there may be, with an end for each side that hasn't gone,
 -- and what waits in it is named.
 pub record IsNearlyValid (S : State) : Type 0 where
   pub named : (p n : ℕ) (table : Table) (d : Descriptor) → get S.tables p ≡ Some table → get table n ≡ Some d → IsNamed (get S.opens d.id) d
   pub behind : (o : ℕ) (kind : OpenKind) → get S.opens o ≡ Some kind → HasBehind S kind
   pub sole : AreSole S.opens
-  pub tables : (p : ℕ) → is_some (get S.tables p) ≡ is_some (get S.statuses p)
-  pub owns : (p : ℕ) → is_some (get S.processes p) ≡ is_some (get S.statuses p)
-  pub ended : (p : ℕ) (status : Status) → get S.statuses p ≡ Some status → status ≢ Live → (get S.tables p ≡ Some empty) × (threads_of S p ≡ Some empty)
+  pub tables : (p : ℕ) → is_some (get S.tables p) ≡ lives (get S.statuses p)
+  pub owns : (p : ℕ) → is_some (get S.processes p) ≡ lives (get S.statuses p)
   pub numbered : (p t : ℕ) → IsSome (thread_of S p t) → t ≤ (counts_in (get S.processes p)).threads
-  pub made : (p k : ℕ) → p < 0xffffffff → (counts_in (get S.processes p)).objects < k → k < 2 ^ 32 → get S.opens (object_of p k) ≡ None
-  pub made_nodes : (p k : ℕ) → p < 0xffffffff → (counts_in (get S.processes p)).objects < k → k < 2 ^ 32 → get S.nodes (object_of p k) ≡ None
-  pub made_channels : (p k : ℕ) → p < 0xffffffff → (counts_in (get S.processes p)).objects < k → k < 2 ^ 32 → get S.chans (object_of p k) ≡ None
-  pub born : (p : ℕ) (own : ProcessState) → get S.processes p ≡ Some own → IsBorn S.processes p own.depth
+  pub made : (p k : ℕ) → p < 0xffffffff → IsUncounted S p k → k < 2 ^ 32 → get S.opens (object_of p k) ≡ None
+  pub made_nodes : (p k : ℕ) → p < 0xffffffff → IsUncounted S p k → k < 2 ^ 32 → get S.nodes (object_of p k) ≡ None
+  pub made_channels : (p k : ℕ) → p < 0xffffffff → IsUncounted S p k → k < 2 ^ 32 → get S.chans (object_of p k) ≡ None
+  pub born : AreBorn S.statuses S.processes
   pub tree : IsTree (tree_of S)
   pub waits : (p t : ℕ) → MayWait (thread_of S p t)
   pub channels : AreJoined S.opens S.chans

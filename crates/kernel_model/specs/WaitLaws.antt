@@ -152,7 +152,7 @@ pub record WakesOnly (S : State) (who : Who) (call : Call) (answered : Answer) (
       → moves_waiters call answered ≡ false → thread_of T who.pid t ≡ thread_of S who.pid t
   pub made : get T.statuses who.pid ≡ Some Live → (t : ℕ) → thread_of S who.pid t ≡ None → IsSome (thread_of T who.pid t)
       → (makes_thread call answered ≡ true) × (t ≡ next_number S who.pid) × (thread_of T who.pid t ≡ Some Runnable)
-  pub counts : LeavesCounts call answered (counts_in (get S.processes who.pid)) (counts_in (get T.processes who.pid))
+  pub counts : get T.statuses who.pid ≡ Some Live → LeavesCounts call answered (counts_in (get S.processes who.pid)) (counts_in (get T.processes who.pid))
 
 -- A thread of a valid state waits in a call that makes and ends none, and no child, so no wake makes or ends a thread, or makes a child.
 abbrev pub WakeKeepsThreads : Type 0

@@ -1,6 +1,6 @@
 //! Laws of the kernel's steps. The statements are in `specs/Laws.antt` and `specs/ChildLaws.antt`, and each holds of every state, process
 //! and call.
-ghost use Rattle.kernel_model.specs.ChildLaws.{ChildNumbersAreUnique, DeepestHasNoChild, NextChildIsUnmade, ProcessNumbersAreSmall, ProcessZeroHasDepthZero};
+ghost use Rattle.kernel_model.specs.ChildLaws.{ChildNumbersAreUnique, DeepestHasNoChild, EachHasOneDepth, NextChildIsUnmade, ProcessNumbersAreSmall, ProcessZeroHasDepthZero};
 ghost use Rattle.kernel_model.specs.Laws.{MeaningsAreProper, ReadsSight, SightDecides, StepDecided, SightIsReached, TouchIsSeen, MadeIsNew};
 ghost use Rattle.kernel_model.specs.Laws.{OthersStay, EndKeeps, ErrorKeeps, StepMovesOnly, ForkTellsChild, WaitedKeepsThreads, EndStateEndsOnly, EndsAreLeast, EndsInAnyOrder, KilledByLastOpen};
 ghost use Rattle.kernel_model.specs.Laws.{EndCarriesNothing, WaitingWasHeld, HungUpByEnd, ReleaseEnds, ChannelsAreLeft, NothingUnheldIsLeft};
@@ -153,19 +153,20 @@ pub fn start_is_valid()
     ensures { StartIsValid }
 {}
 
-/// In a valid state the number of a child says which process is its parent, and which of the parent's children it is. So no two
-/// forks give a process the same number.
+/// The number of a child says which process is its parent, and which of the parent's children it is, whether these live or have
+/// ended. So no two forks give a process the same number. In a valid state each process that was made has one depth.
 pub fn child_numbers_are_unique()
-    ensures { ChildNumbersAreUnique }
+    ensures numbers { ChildNumbersAreUnique }
+    ensures depths { EachHasOneDepth }
 {}
 
-/// A child that its parent has not counted was not made in a valid state: it has no table, no status and nothing of its own, and
+/// A child that its parent has not counted was not made in a valid state: it has no status and nothing of its own, and
 /// nothing is there under the numbers of its objects.
 pub fn next_child_is_unmade()
     ensures { NextChildIsUnmade }
 {}
 
-/// The number of each process of a valid state is less than 0xffffffff, which stands for the objects of the launch. Process 0 has
+/// The number of each process that was made is less than 0xffffffff, which stands for the objects of the launch. Process 0 has
 /// depth 0, no process is deeper than 4, and one of depth 4 has no child.
 pub fn process_numbers_are_small()
     ensures small { ProcessNumbersAreSmall }

@@ -3,8 +3,7 @@
 --     process_ends      a process has ended
 --     popped      an open has gone that nothing holds
 --     end_left      an end has left its channels
---     touched_besides      time and the standard streams don't count
---     no_last_kept, no_last_begun      the greatest number stays nobody's
+--     no_last_kept      the greatest number stays nobody's
 --     goes_alone, goes_killing, goes_leaving      what one turn of the loop does, after all before it
 use Rattle.std.proofs.Common.{◌≡◌, ◌≢◌, ℕ, ◌+◌, ◌-◌, ◌^◌, ◌<◌, ◌||◌, Bool, true, false, cond, Option, None, Some, IsSome, inl, inr, refl, sym, ap, subst, ◌∙◌, arith}
 use Rattle.std.proofs.lemmas.Bool.{eq-eqb}
@@ -12,21 +11,19 @@ use Rattle.std.proofs.lemmas.Bool.Decides.{eqb_tells}
 use Rattle.std.specs.Bool.{nat_eq}
 use Rattle.std.specs.Ordering.{nat_cmp}
 use Rattle.std.specs.Option.{option_map}
-use Rattle.std.specs.FinMap.{FinMap, get, get-empty, empty, insert, remove}
+use Rattle.std.specs.FinMap.{FinMap, get, insert, remove}
 use Rattle.abi_types.specs.declared.chan_kind.ChanKind.{ChanKind}
 use Rattle.abi_types.specs.declared.descriptor.Descriptor.{Descriptor}
 use Rattle.abi_types.specs.declared.open_kind.OpenKind.{OpenKind}
 use Rattle.abi_types.specs.declared.open_kind.OpenKind.TheVariants.{File, Directory, End, Terminal, Process}
 use Rattle.abi_types.specs.declared.status.Status.{Status}
-use Rattle.abi_types.specs.declared.stream.Stream.{Stream}
 use Rattle.abi_types.specs.declared.thread.Thread.{Thread}
 use Rattle.channel_calls.specs.Calls.{AllGoOn, Channels, carriers_in, channels_left}
 use Rattle.channel_calls.proofs.Lefts.{left_at_key}
 use Rattle.maps.specs.Closure.{get-changed}
 use Rattle.object_store.specs.Objects.{Held}
-use Rattle.maps.specs.Maps.{number, total, total_at_least, get-insert-same, get-insert-other, get-remove-other, same_numbers}
+use Rattle.maps.specs.Maps.{number, total, total_at_least, get-insert-other, get-remove-same, get-remove-other, same_numbers}
 use Rattle.kernel_model.specs.Channels.{Channel, channel_left}
-use Rattle.kernel_model.specs.Families.ProcessCalls.{ended_process}
 use Rattle.kernel_model.specs.Release.{count_in, is_reader, is_writer, kept_channel, names_open}
 use Rattle.kernel_model.specs.State.{State, Table, ProcessState, Tree, thread_in, thread_of}
 use Rattle.kernel_model.proofs.Ends.{same_channel}
@@ -38,7 +35,7 @@ use Rattle.kernel_parts.specs.Keys.{is_own, key}
 use Rattle.kernel_parts.specs.Released.{state_by}
 use Rattle.kernel_parts.specs.Touched.{DoesTheSame, IsKept, IsTouched}
 use Rattle.kernel_parts.specs.Touching.{HasEach, HasNoLast, left_if, stands_at, stands_at_end, gone_if}
-use Rattle.kernel_parts.proofs.ThreadKeys.{low_key, own_key, own_other}
+use Rattle.kernel_parts.proofs.ThreadKeys.{own_key, own_other}
 use Rattle.kernel_parts.proofs.Touched.{is_kept_self, is_touched_follows}
 
 -- ---- those that are left
@@ -139,12 +136,8 @@ went f false (Some v) h some =
       | false ↦ λ e. absurd (none_is_no v (sym e))
     ] h
 
-no_thread : (t : ℕ) (o : Option ProcessState) → thread_in (option_map (λ (own : ProcessState). own.threads) (Some (ended_process o))) t ≡ None
-no_thread t None = get-empty nat_cmp t
-no_thread t (Some own) = get-empty nat_cmp t
-
-module _ (S T : State) (V W : WaitMap) (p : ℕ) (status : Status) (small : p < 2 ^ 32) (last : HasNoLast V) (tables : T.tables ≡ insert S.tables p empty)
-    (processes : T.processes ≡ insert S.processes p (ended_process (get S.processes p))) (statuses : T.statuses ≡ insert S.statuses p status)
+module _ (S T : State) (V W : WaitMap) (p : ℕ) (status : Status) (small : p < 2 ^ 32) (last : HasNoLast V) (tables : T.tables ≡ remove S.tables p)
+    (processes : T.processes ≡ remove S.processes p) (statuses : T.statuses ≡ insert S.statuses p status)
     (opens : T.opens ≡ S.opens) (chans : T.chans ≡ S.chans) (clock : T.clock ≡ S.clock)
     (entries : HasEach (λ k entry. gone_if (is_own p k) (left_if (flag (stands (spot.Ended p)) entry) entry)) V W) where
   abbrev f : Waiting → Bool
@@ -156,16 +149,15 @@ module _ (S T : State) (V W : WaitMap) (p : ℕ) (status : Status) (small : p < 
   none_now : (t : ℕ) → thread_of T p t ≡ None
   none_now t =
       ap (λ (m : FinMap nat_cmp ProcessState). thread_in (option_map (λ (own : ProcessState). own.threads) (get m p)) t) processes
-      ∙ ap (λ o. thread_in (option_map (λ (own : ProcessState). own.threads) o) t) (get-insert-same S.processes p (ended_process (get S.processes p)))
-      ∙ no_thread t (get S.processes p)
+      ∙ ap (λ o. thread_in (option_map (λ (own : ProcessState). own.threads) o) t) (get-remove-same S.processes p)
 
   thread_kept : (q t : ℕ) → q ≢ p → thread_of T q t ≡ thread_of S q t
   thread_kept q t apart =
       ap (λ (m : FinMap nat_cmp ProcessState). thread_in (option_map (λ (own : ProcessState). own.threads) (get m q)) t) processes
-      ∙ ap (λ o. thread_in (option_map (λ (own : ProcessState). own.threads) o) t) (get-insert-other S.processes p (ended_process (get S.processes p)) q apart)
+      ∙ ap (λ o. thread_in (option_map (λ (own : ProcessState). own.threads) o) t) (get-remove-other S.processes p q apart)
 
   table_kept : (q : ℕ) → q ≢ p → get T.tables q ≡ get S.tables q
-  table_kept q apart = ap (λ (m : FinMap nat_cmp Table). get m q) tables ∙ get-insert-other S.tables p empty q apart
+  table_kept q apart = ap (λ (m : FinMap nat_cmp Table). get m q) tables ∙ get-remove-other S.tables p q apart
 
   -- whoever has an entry still is of another process
   other : (q t : ℕ) (w : Waiting) → t < 2 ^ 32 → get W (key q t) ≡ Some w → q ≢ p
@@ -195,15 +187,12 @@ module _ (S T : State) (V W : WaitMap) (p : ℕ) (status : Status) (small : p < 
       → (get S.tables q ≡ Some table) × (get T.opens d.id ≡ get S.opens d.id)
   rows q n table d own there =
       elim (eqb_tells q p) [
-        | inl same ↦ absurd (none_is_no d (sym (get-empty nat_cmp n) ∙ ap (λ (m : Table). get m n) (nothing_left same.1) ∙ there))
+        | inl same ↦ absurd (none_is_no table (sym (nothing_left same.1) ∙ own))
         | inr apart ↦ (sym (table_kept q apart.1) ∙ own, ap (λ (m : FinMap nat_cmp OpenKind). get m d.id) opens)
       ]
     where
-      nothing_left : q ≡ p → empty ≡ table
-      nothing_left same =
-          let is : Some empty ≡ Some table =
-          sym (get-insert-same S.tables p empty) ∙ ap (λ (m : FinMap nat_cmp Table). get m p) (sym tables) ∙ ap (get T.tables) (sym same) ∙ own in
-          cc
+      nothing_left : q ≡ p → get T.tables q ≡ None
+      nothing_left same = ap (get T.tables) same ∙ ap (λ (m : FinMap nat_cmp Table). get m p) tables ∙ get-remove-same S.tables p
 
   threads : (q t : ℕ) (thread : Thread) → thread_of T q t ≡ Some thread → thread_of S q t ≡ Some thread
   threads q t thread there =
@@ -311,21 +300,6 @@ module _ (tables : FinMap nat_cmp Table) (processes : FinMap nat_cmp ProcessStat
               let two = first_false (stands_at (Some r) w) (stands_at (Some x) w) away in
               (apart (Some r) w c two.0 at r refl, apart (Some x) w c two.1 at x refl)
 
--- ---- what doesn't count
-
-pub touched_besides : (S T : State) (V W : WaitMap) (clock : ℕ) (terms : FinMap nat_cmp Stream) → IsTouched S T V W
-    → IsTouched (record S { clock = clock; terms = terms }) (record T { clock = clock; terms = terms }) V W
-touched_besides S T V W clock terms by = record {
-  kept = by.kept;
-  gone = by.gone;
-  stay = λ p t w small there. record { thread = (by.stay p t w small there).thread; table = (by.stay p t w small there).table };
-  channels = by.channels;
-  ends = by.ends;
-  rows = by.rows;
-  threads = by.threads;
-  clock = refl;
-}
-
 -- ---- the greatest number
 
 -- where something has ended no entry has it that hadn't
@@ -335,10 +309,6 @@ no_last_kept S T V W by last =
       | None ↦ λ _. refl
       | Some w ↦ λ there. (let v = by.kept (2 ^ 64 - 1) w there in absurd (none_is_no v.0 (sym last ∙ v.1)))
     ] refl
-
--- nor where a thread begins to wait whose number isn't the greatest
-pub no_last_begun : (V : WaitMap) (p t : ℕ) (w : Waiting) → p < 2 ^ 32 → t < 2 ^ 32 - 1 → HasNoLast V → HasNoLast (insert V (key p t) w)
-no_last_begun V p t w few small last = get-insert-other V (key p t) w (2 ^ 64 - 1) (λ same. low_key p t few small (sym same)) ∙ last
 
 -- ---- the loop
 

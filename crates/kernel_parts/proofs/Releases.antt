@@ -1,5 +1,5 @@
 -- Opens that nothing holds go one after another, and with them the processes that they are of and the nodes that are no longer used.
---     covered, left_holders      what a process holds, and the holders that are left once its table is empty
+--     covered, left_holders, none_dropped      what a process holds, and the holders that are left once it has no table
 --     one_fewer      one open less
 --     without_process, without_end, without_other      what the state is without one more open, of a process, an end or anything else
 --     kept, carried_kept      channels without those that are over: nothing waits in these
@@ -13,7 +13,7 @@ use Rattle.std.proofs.lemmas.Bool.{eq-eqb}
 use Rattle.std.proofs.lemmas.Bool.Decides.{eqb_tells}
 use Rattle.std.specs.Ordering.{nat_cmp}
 use Rattle.std.specs.Option.{option_map}
-use Rattle.std.specs.FinMap.{FinMap, get, empty, insert, len, remove, retain_keys}
+use Rattle.std.specs.FinMap.{FinMap, get, insert, len, remove, retain_keys}
 use Rattle.abi_types.specs.declared.chan_kind.ChanKind.{ChanKind}
 use Rattle.abi_types.specs.declared.open_kind.OpenKind.{OpenKind}
 use Rattle.abi_types.specs.declared.open_kind.OpenKind.TheVariants.{File, Directory, End, Terminal, Process}
@@ -22,7 +22,7 @@ use Rattle.abi_types.specs.declared.status.Status.TheVariants.{Killed}
 use Rattle.abi_types.specs.declared.stream.Stream.{Stream}
 use Rattle.abi_base.specs.declared.signal.Signal.TheVariants.{Kill}
 use Rattle.maps.specs.Closure.{member, changed, get-changed}
-use Rattle.maps.specs.Maps.{number, total, total_at_least, total_same, weight, get-insert-same, get-insert-other, get-remove-same, get-remove-other, get-retain, len-removed, same_numbers}
+use Rattle.maps.specs.Maps.{number, total, total_at_least, total_same, total-remove, weight, get-insert-same, get-insert-other, get-remove-same, get-remove-other, get-retain, len-removed, same_numbers}
 use Rattle.object_store.specs.Objects.{Held, HasCounts}
 use Rattle.tree_model.specs.Changes.{forgotten}
 use Rattle.tree_model.specs.Counts.{one_for-other}
@@ -32,13 +32,12 @@ use Rattle.tree_model.specs.Retained.{retained}
 use Rattle.tree_model.specs.Tree.{Tree, IsTree, one_for}
 use Rattle.channel_calls.specs.Calls.{AllGoOn, AreCarried, AreFew, Channels, carriers_in, channels_left}
 use Rattle.kernel_model.specs.Channels.{Channel, Send, channel_left, is_empty, is_gone, is_over}
-use Rattle.kernel_model.specs.Families.ProcessCalls.{ended_process}
-use Rattle.kernel_model.specs.Release.{count_in, count_sent, carried_in, holders, carriers, is_of_process, is_reader, is_writer, lives, is_killed, is_channel_kept, kept_channel, table_left, process_left, status_left, without, ends, without_ended, without_nodes, without_over, release, AllAreHeld, LetsGo, starts, goes}
+use Rattle.kernel_model.specs.Release.{count_in, count_sent, carried_in, holders, carriers, is_of_process, is_reader, is_writer, lives, is_killed, is_channel_kept, kept_channel, status_left, without, ends, without_ended, without_nodes, without_over, release, AllAreHeld, LetsGo, starts, goes}
 use Rattle.kernel_model.specs.State.{State, Table, ProcessState}
 use Rattle.kernel_model.proofs.Ending.{ended_last, ends_in_any_order}
-use Rattle.kernel_model.proofs.Ends.{channel_after, process_spared, same_channel, same_process, same_status, same_table, status_spared, table_spared}
+use Rattle.kernel_model.proofs.Ends.{channel_after, process_spared, same_channel, same_status, status_spared, table_spared}
 use Rattle.kernel_model.proofs.Tests.{not_true, or_false}
-use Rattle.kernel_model.proofs.Valids.{emptied_holders, same_keys_inserted}
+use Rattle.kernel_model.proofs.Valids.{dropped_holders}
 use Rattle.kernel_parts.specs.Released.{IsKilledIn, state_by}
 
 -- ---- holders
@@ -48,10 +47,16 @@ covered tables p table there o = total_at_least (count_in o) tables p table ther
 
 pub left_holders : (tables : FinMap nat_cmp Table) (p : ℕ) (table : Table) (before after : FinMap nat_cmp ℕ) → get tables p ≡ Some table
     → ((o : ℕ) → number (get after o) + count_in o table ≡ number (get before o))
-    → (o : ℕ) → number (get after o) + total (count_in o) tables ≡ number (get before o) + total (count_in o) (insert tables p empty)
+    → (o : ℕ) → number (get after o) + total (count_in o) tables ≡ number (get before o) + total (count_in o) (remove tables p)
 left_holders tables p table before after there less o =
-    let emptied = emptied_holders tables p o table there in
-    omega (arith, emptied, less o)
+    let dropped = dropped_holders tables p o table there in
+    omega (arith, dropped, less o)
+
+pub none_dropped : (tables : FinMap nat_cmp Table) (p o n : ℕ) → get tables p ≡ None → n + total (count_in o) tables ≡ n + total (count_in o) (remove tables p)
+none_dropped tables p o n none =
+    let nothing : weight (count_in o) (get tables p) ≡ 0 = ap (weight (count_in o)) none in
+    let sums = total-remove (count_in o) tables p in
+    omega (arith, nothing, sums)
 
 pub one_fewer : (kinds new : FinMap nat_cmp OpenKind) (o : ℕ) (kind : OpenKind) → get kinds o ≡ Some kind → new ≡ remove kinds o → len new < len kinds
 one_fewer kinds new o kind there is =
@@ -79,17 +84,26 @@ put_left {X} m f value p b killed here others keeps gives = same_numbers _ _ (λ
         | inr other ↦ sym (keeps (get m q)) ∙ sym (ap (λ k. option_map (f k) (get m q)) (others q other.1))
       ]
 
+-- a map from which one is taken away, if this test says so
+drop_left : {X : Type 0} (m : FinMap nat_cmp X) (p : ℕ) (b : Bool) (killed : ℕ → Bool) → killed p ≡ b → ((q : ℕ) → q ≢ p → killed q ≡ false)
+    → cond b (remove m p) m ≡ retain_keys m (λ q. not (killed q))
+drop_left {X} m p b killed here others = same_numbers _ _ (λ q. at b q refl ∙ sym (get-retain m (λ r. not (killed r)) q)) where
+  at : (c : Bool) (q : ℕ) → b ≡ c → get (cond c (remove m p) m) q ≡ cond (not (killed q)) (get m q) None
+  at true q is =
+      elim (eqb_tells q p) [
+        | inl same ↦ subst (λ r. get (remove m p) r ≡ cond (not (killed r)) (get m r) None) (sym same.1)
+            (get-remove-same m p ∙ sym (ap (λ k. cond (not k) (get m p) None) (here ∙ is)))
+        | inr other ↦ get-remove-other m p q other.1 ∙ sym (ap (λ k. cond (not k) (get m q) None) (others q other.1))
+      ]
+  at false q is =
+      elim (eqb_tells q p) [
+        | inl same ↦ sym (ap (λ k. cond (not k) (get m q) None) (ap killed same.1 ∙ here ∙ is))
+        | inr other ↦ sym (ap (λ k. cond (not k) (get m q) None) (others q other.1))
+      ]
+
 lives_some : (status : Option Status) → lives status ≡ true → is_some status ≡ true
 lives_some None h = absurd (not_true h)
 lives_some (Some status) h = refl
-
-emptied : (t : Option Table) → is_some t ≡ true → option_map (table_left true) t ≡ Some empty
-emptied None h = absurd (not_true h)
-emptied (Some t) h = refl
-
-ended : (own : Option ProcessState) → is_some own ≡ true → option_map (process_left true) own ≡ Some (ended_process own)
-ended None h = absurd (not_true h)
-ended (Some own) h = refl
 
 killed : (status : Option Status) → is_some status ≡ true → option_map (status_left true) status ≡ Some (Killed Kill)
 killed None h = absurd (not_true h)
@@ -139,11 +153,9 @@ module _ (C : State) (o : ℕ) where
 
   -- an open of a process goes
   pub without_process : (p object : ℕ) (tables : FinMap nat_cmp Table) (processes : FinMap nat_cmp ProcessState) (statuses : FinMap nat_cmp Status)
-      → get C.opens o ≡ Some (Process p object) → ((q : ℕ) → is_some (get C.tables q) ≡ is_some (get C.statuses q))
-      → ((q : ℕ) → is_some (get C.processes q) ≡ is_some (get C.statuses q))
-      → IsKilledIn p C.tables C.processes C.statuses tables processes statuses
+      → get C.opens o ≡ Some (Process p object) → IsKilledIn p C.tables C.processes C.statuses tables processes statuses
       → record C { tables = tables; processes = processes; statuses = statuses; opens = remove C.opens o } ≡ without (o ∷ []) C
-  without_process p object tables processes statuses there all_tables all_own is =
+  without_process p object tables processes statuses there is =
       let b : Bool = lives (get C.statuses p) in
       let kills : (q : ℕ) → is_killed C (o ∷ []) q ≡ (((p == q) || false) && lives (get C.statuses q)) =
       λ q. ap (λ kind. (is_of_process q kind || false) && lives (get C.statuses q)) there in
@@ -153,11 +165,9 @@ module _ (C : State) (o : ℕ) where
       let some : b ≡ true → is_some (get C.statuses p) ≡ true = lives_some (get C.statuses p) in
       let chans : C.chans ≡ (without (o ∷ []) C).chans = chans_then (Process p object) there (λ reads writes flags form e. cc) in
       let first : tables ≡ (without (o ∷ []) C).tables =
-      is.left_tables ∙ put_left C.tables table_left empty p b (is_killed C (o ∷ [])) here others same_table
-      (λ alive. emptied (get C.tables p) (all_tables p ∙ some alive)) in
+      is.left_tables ∙ drop_left C.tables p b (is_killed C (o ∷ [])) here others in
       let second : processes ≡ (without (o ∷ []) C).processes =
-      is.left_processes ∙ put_left C.processes process_left (ended_process (get C.processes p)) p b (is_killed C (o ∷ [])) here others same_process
-      (λ alive. ended (get C.processes p) (all_own p ∙ some alive)) in
+      is.left_processes ∙ drop_left C.processes p b (is_killed C (o ∷ [])) here others in
       let third : statuses ≡ (without (o ∷ []) C).statuses =
       is.left_statuses ∙ put_left C.statuses status_left (Killed Kill) p b (is_killed C (o ∷ [])) here others same_status
       (λ alive. killed (get C.statuses p) (some alive)) in
@@ -273,17 +283,15 @@ pub record IsGoing (first : State) (old : Tree) (tables : FinMap nat_cmp Table) 
   pub going : AllGoOn channels
   pub few : AreFew first.chans → AreFew channels
   pub counted : (o : ℕ) → number (get h.counts o) ≡ total (count_in o) tables + carriers_in o channels
-  pub all_tables : (p : ℕ) → is_some (get tables p) ≡ is_some (get statuses p)
-  pub all_own : (p : ℕ) → is_some (get processes p) ≡ is_some (get statuses p)
   pub between : IsReleasing (without_ended first).opens old h.kinds t
   pub tree : IsTree t
 
 pub going_starts : (tables : FinMap nat_cmp Table) (processes : FinMap nat_cmp ProcessState) (statuses : FinMap nat_cmp Status) (channels : Channels) (h : Held)
     (t : Tree) → IsTree t → ((n : ℕ) → IsSome (get t.nodes n) → is_used h.kinds t n ≡ true)
     → ((o : ℕ) → number (get h.counts o) ≡ total (count_in o) tables + carriers_in o channels)
-    → ((p : ℕ) → is_some (get tables p) ≡ is_some (get statuses p)) → ((p : ℕ) → is_some (get processes p) ≡ is_some (get statuses p)) → AllGoOn channels
+    → AllGoOn channels
     → IsGoing (state_by tables processes statuses h.kinds channels t) t tables processes statuses channels h t
-going_starts tables processes statuses channels h t tree used counted all_tables all_own going =
+going_starts tables processes statuses channels h t tree used counted going =
     let S : State = state_by tables processes statuses h.kinds channels t in
     record {
       all = channels;
@@ -292,8 +300,6 @@ going_starts tables processes statuses channels h t tree used counted all_tables
       going = going;
       few = λ few. few;
       counted = counted;
-      all_tables = all_tables;
-      all_own = all_own;
       between = releasing_start (without_ended S).opens h.kinds t (ended_last S S starts) used;
       tree = tree;
     }
@@ -352,7 +358,7 @@ module _ (first : State) (old t : Tree) (tables : FinMap nat_cmp Table) (process
       → IsKilledIn p tables processes statuses new_tables new_processes new_statuses → IsGoing first old new_tables new_processes new_statuses channels killed t
   after_process p object new_tables new_processes new_statuses killed of kinds counts parts =
       let left : killed.kinds ≡ remove h.kinds o = kinds ∙ kinds_are in
-      let state = without_process now o p object new_tables new_processes new_statuses (there ∙ ap Some of) going.all_tables going.all_own parts in
+      let state = without_process now o p object new_tables new_processes new_statuses (there ∙ ap Some of) parts in
       let by : LetsGo first (state_by new_tables new_processes new_statuses (remove h.kinds o) going.all old) = subst (LetsGo first) (sym state) next in
       record {
         all = going.all;
@@ -361,23 +367,11 @@ module _ (first : State) (old t : Tree) (tables : FinMap nat_cmp Table) (process
         going = going.going;
         few = going.few;
         counted = λ q. (let before = still_counted q in let moved = counts q in omega (arith, before, moved));
-        all_tables = same_some_killed tables new_tables empty statuses new_statuses (Killed Kill) parts.left_tables parts.left_statuses going.all_tables;
-        all_own = same_some_killed processes new_processes (ended_process (get processes p)) statuses new_statuses (Killed Kill) parts.left_processes parts.left_statuses going.all_own;
         between = subst (λ (m : FinMap nat_cmp OpenKind). IsReleasing (without_ended first).opens old m t) (sym left)
             (releasing_other (without_ended first).opens old h.kinds t o kind there (λ n. ap (one_of_node n) of)
             (within (state_by new_tables new_processes new_statuses (remove h.kinds o) going.all old) by) going.between);
         tree = going.tree;
       }
-    where
-      same_some_killed : {X : Type 0} (m new_m : FinMap nat_cmp X) (value : X) (s new_s : FinMap nat_cmp Status) (status : Status)
-          → new_m ≡ cond (lives (get statuses p)) (insert m p value) m → new_s ≡ cond (lives (get statuses p)) (insert s p status) s
-          → ((q : ℕ) → is_some (get m q) ≡ is_some (get s q)) → (q : ℕ) → is_some (get new_m q) ≡ is_some (get new_s q)
-      same_some_killed {X} m new_m value s new_s status a b same q =
-          ap (λ (x : FinMap nat_cmp X). is_some (get x q)) a ∙ by_test (lives (get statuses p)) ∙ sym (ap (λ (x : FinMap nat_cmp Status). is_some (get x q)) b)
-        where
-          by_test : (c : Bool) → is_some (get (cond c (insert m p value) m) q) ≡ is_some (get (cond c (insert s p status) s) q)
-          by_test true = same_keys_inserted m s p value status same q
-          by_test false = same q
 
   -- an end has gone
   pub after_end : (reads writes : Option ℕ) (flags : ℕ) (form : ChanKind) (new_channels : Channels) (hung : Held) → kind ≡ End reads writes flags form → hung.kinds ≡ new.kinds
@@ -394,8 +388,6 @@ module _ (first : State) (old t : Tree) (tables : FinMap nat_cmp Table) (process
         going = going_on;
         few = λ before. few (going.few before);
         counted = λ q. (let before = still_counted q in let moved = counts q in omega (arith, before, moved));
-        all_tables = going.all_tables;
-        all_own = going.all_own;
         between = subst (λ (m : FinMap nat_cmp OpenKind). IsReleasing (without_ended first).opens old m t) (sym left)
             (releasing_other (without_ended first).opens old h.kinds t o kind there (λ n. ap (one_of_node n) of)
             (within (state_by tables processes statuses (remove h.kinds o) (sides_left kind going.all) old) by) going.between);
@@ -419,8 +411,6 @@ module _ (first : State) (old t : Tree) (tables : FinMap nat_cmp Table) (process
         going = going.going;
         few = going.few;
         counted = still_counted;
-        all_tables = going.all_tables;
-        all_own = going.all_own;
         between = subst (λ (m : FinMap nat_cmp OpenKind). IsReleasing (without_ended first).opens old m t) (sym kinds_are)
             (releasing_other (without_ended first).opens old h.kinds t o kind there none
             (within (state_by tables processes statuses (remove h.kinds o) going.all old) by) going.between);
@@ -440,8 +430,6 @@ module _ (first : State) (old t : Tree) (tables : FinMap nat_cmp Table) (process
         going = going.going;
         few = going.few;
         counted = still_counted;
-        all_tables = going.all_tables;
-        all_own = going.all_own;
         between = subst (λ (m : FinMap nat_cmp OpenKind). IsReleasing (without_ended first).opens old m u) (sym kinds_are)
             (releasing_next (without_ended first).opens old h.kinds t u o n kind there others
             (within (state_by tables processes statuses (remove h.kinds o) going.all old) by)

@@ -1,13 +1,12 @@
 -- What a release is given, and what it leaves.
 use Rattle.std.specs.Prelude.{◌≡◌, ℕ, if◌then◌else◌}
 use Rattle.std.specs.Ordering.{nat_cmp}
-use Rattle.std.specs.FinMap.{FinMap, get, empty, insert}
+use Rattle.std.specs.FinMap.{FinMap, get, insert, remove}
 use Rattle.abi_base.specs.declared.signal.Signal.TheVariants.{Kill}
 use Rattle.abi_types.specs.declared.open_kind.OpenKind.{OpenKind}
 use Rattle.abi_types.specs.declared.status.Status.{Status}
 use Rattle.abi_types.specs.declared.status.Status.TheVariants.{Killed}
 use Rattle.kernel_model.specs.Channels.{Channel}
-use Rattle.kernel_model.specs.Families.ProcessCalls.{ended_process}
 use Rattle.kernel_model.specs.Release.{lives}
 use Rattle.kernel_model.specs.State.{State, Table, ProcessState, Tree, no_state}
 
@@ -23,9 +22,9 @@ state_by tables processes statuses opens channels tree = record no_state {
   names = tree.names;
 }
 
--- a process that lived is killed, and holds nothing; and nothing else changes
+-- a process that lived is killed, and has nothing of its own any more; and nothing else changes
 pub record IsKilledIn (p : ℕ) (tables : FinMap nat_cmp Table) (processes : FinMap nat_cmp ProcessState) (statuses : FinMap nat_cmp Status)
     (new_tables : FinMap nat_cmp Table) (new_processes : FinMap nat_cmp ProcessState) (new_statuses : FinMap nat_cmp Status) : Type 0 where
-  pub left_tables : new_tables ≡ (if lives (get statuses p) then insert tables p empty else tables)
-  pub left_processes : new_processes ≡ (if lives (get statuses p) then insert processes p (ended_process (get processes p)) else processes)
+  pub left_tables : new_tables ≡ (if lives (get statuses p) then remove tables p else tables)
+  pub left_processes : new_processes ≡ (if lives (get statuses p) then remove processes p else processes)
   pub left_statuses : new_statuses ≡ (if lives (get statuses p) then insert statuses p (Killed Kill) else statuses)

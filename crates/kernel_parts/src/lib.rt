@@ -5,26 +5,24 @@
 pub use clocks::{CLOCK_RESOLUTION, time_of};
 pub use entries::{Caller, EntryReply, change_entries};
 pub use keys::{end_key, thread_key, thread_of_key};
-pub use notes::wait_spots;
 pub use opens::{Opening, add_open, kind_of, open_of, put_opening};
 pub use places::placed;
 pub use process::ProcessState;
 pub use releasing::{forget_nameless, release};
 pub use start::{granted, single, streams};
 pub use stream_calls::on_stream;
-pub use table::{hold_all, let_go_all};
+pub use table::{drop_table, hold_all, let_go_all};
 pub use table_change::change_table;
 pub use terminal::Terminal;
 pub use touching::{
     ensure_entry, keep_thread, touch_end, touch_ended, touch_number, touch_numbers, touch_told,
 };
-pub use waiting::{goes_on, socket_fd};
+pub use waiting::{goes_on, socket_fd, wait_spots};
 
 mod clocks;
 mod entries;
 mod keys;
 mod locks;
-mod notes;
 mod numbers;
 mod opens;
 mod places;

@@ -9,7 +9,7 @@ ghost use Rattle.clock_random.specs.Random.{random_bytes};
 ghost use Rattle.kernel_model.specs.Families.Children.{byte_unit};
 ghost use Rattle.kernel_model.specs.Families.ClockCalls.{can_draw, drawn_by};
 ghost use Rattle.kernel_model.specs.Families.Numbers.{made_more};
-ghost use Rattle.kernel_model.specs.Families.ProcessCalls.{ended_process, is_last_thread, made_in};
+ghost use Rattle.kernel_model.specs.Families.ProcessCalls.{is_last_thread, made_in};
 ghost use Rattle.kernel_model.specs.OwnChanges.{begun_anew, may_bear, with_next_child, without_thread};
 ghost use Rattle.kernel_model.specs.Families.ForkCalls.{can_fork, child_number, child_process};
 ghost use Rattle.kernel_model.specs.Start.{canary_words, first_process};
@@ -105,13 +105,6 @@ impl ProcessState {
             },
             depth: 0,
         })
-    }
-
-    /// Leaves no thread, as a process that ends does. What it has made so far stays, and its depth.
-    pub fn end(&mut self)
-        ensures { self.new ≡ ended_process (Some self.old) }
-    {
-        self.threads.clear();
     }
 
     /// The number that its next thread gets.

@@ -1,5 +1,5 @@
 //! What ends because nothing holds it, and the nodes of the file tree that go with it.
-ghost use Rattle.std.specs.Prelude.{◌≡◌, ◌≤◌, ◌⊎◌, ◌+◌, ℕ, None, Some, IsSome, is_some, true, false};
+ghost use Rattle.std.specs.Prelude.{◌≡◌, ◌≤◌, ◌⊎◌, ◌+◌, ℕ, None, Some, IsSome, true, false};
 ghost use Rattle.std.specs.FinMap as map;
 ghost use Rattle.std.specs.Ordering.{nat_cmp};
 ghost use Rattle.channel_calls.specs.Calls.{AllGoOn, AreFew, carriers_in};
@@ -15,7 +15,7 @@ ghost use Rattle.tree_model.specs.Retained.{retained};
 ghost use Rattle.tree_model.specs.Tree.{IsTree};
 
 use crate::process::ProcessState;
-use crate::table::let_go_all;
+use crate::table::drop_table;
 use crate::touching::{touch_end, touch_ended};
 use abi_types::{ObjId, OpenKind, Pid, Signal, Status};
 use channel_calls::{Channels, leave};
@@ -47,7 +47,7 @@ fn is_alive(status: Option<Status>) -> bool
     matches!(status, Some(Status::Live))
 }
 
-// Kills a process, where it lives: it has no descriptor and no thread left, and none that waits. Those that wait for its end are left.
+// Kills a process, where it lives: it has nothing of its own any more, and no thread that waits. Those that wait for its end are left.
 fn kill(
     pid: Pid,
     objects: &mut Objects,
@@ -56,9 +56,7 @@ fn kill(
     statuses: &mut NumMap<Status>,
     waits: &mut WaitSet,
 )
-    requires covered { (o : ℕ) → total (count_in o) tables.old ≤ number (map.get objects.old.counts o) }
-    requires tables { (p : ℕ) → is_some (map.get tables.old p) ≡ is_some (map.get statuses.old p) }
-    requires processes { (p : ℕ) → is_some (map.get processes.old p) ≡ is_some (map.get statuses.old p) }
+    requires { (o : ℕ) → total (count_in o) tables.old ≤ number (map.get objects.old.counts o) }
     ensures kinds { objects.new.kinds ≡ objects.old.kinds }
     ensures counts { (o : ℕ) → number (map.get objects.new.counts o) + total (count_in o) tables.old ≡ number (map.get objects.old.counts o) + total (count_in o) tables.new }
     ensures parts { IsKilledIn pid tables.old processes.old statuses.old tables.new processes.new statuses.new }
@@ -68,9 +66,8 @@ fn kill(
     if is_alive(statuses.get(p).copied()) {
         statuses.replace(p, Status::Killed(Signal::Kill));
         touch_ended(waits, pid);
-        let own = processes.get_mut(p);
-        own.end();
-        let_go_all(tables.get_mut(p), objects);
+        processes.remove(p);
+        drop_table(tables, p, objects);
     }
 }
 
@@ -92,8 +89,6 @@ pub fn release(
     requires tree { IsTree tree.old }
     requires used { (n : ℕ) → IsSome (map.get tree.old.nodes n) → is_used objects.old.kinds tree.old n ≡ true }
     requires counted { (o : ℕ) → number (map.get objects.old.counts o) ≡ total (count_in o) tables.old + carriers_in o channels.old }
-    requires tables { (p : ℕ) → is_some (map.get tables.old p) ≡ is_some (map.get statuses.old p) }
-    requires processes { (p : ℕ) → is_some (map.get processes.old p) ≡ is_some (map.get statuses.old p) }
     requires going { AllGoOn channels.old }
     ensures state { state_by tables.new processes.new statuses.new objects.new.kinds channels.new tree.new ≡ release (state_by tables.old processes.old statuses.old objects.old.kinds channels.old tree.old) }
     ensures counted { (o : ℕ) → number (map.get objects.new.counts o) ≡ total (count_in o) tables.new + carriers_in o channels.new }

@@ -2,10 +2,11 @@
 ghost use Rattle.std.specs.Prelude.{◌≡◌, ℕ, ◌+◌, ◌≤◌, ◌^◌, Some, IsSome};
 ghost use Rattle.std.specs.FinMap as map;
 ghost use Rattle.abi_types.specs.declared.descriptor.Descriptor.{Descriptor};
-ghost use Rattle.maps.specs.Maps.{number};
+ghost use Rattle.maps.specs.Maps.{number, total};
 ghost use Rattle.kernel_model.specs.Release.{count_in};
 
 use fd_table::FdTable;
+use maps::NumMap;
 use object_store::Objects;
 
 /// Empties a table: each open has as many holders less as the table named it.
@@ -17,6 +18,18 @@ pub fn let_go_all(table: &mut FdTable, objects: &mut Objects)
 {
     while let Some((_, descriptor)) = table.pop_first() {
         objects.let_go(descriptor.id);
+    }
+}
+
+/// Takes a process's table away, if it has one: each open has as many holders less as the table named it.
+pub fn drop_table(tables: &mut NumMap<FdTable>, process: u64, objects: &mut Objects)
+    requires { (o : ℕ) → total (count_in o) tables.old ≤ number (map.get objects.old.counts o) }
+    ensures tables { tables.new ≡ map.remove tables.old process }
+    ensures kinds { objects.new.kinds ≡ objects.old.kinds }
+    ensures counts { (o : ℕ) → number (map.get objects.new.counts o) + total (count_in o) tables.old ≡ number (map.get objects.old.counts o) + total (count_in o) tables.new }
+{
+    if let Some(mut table) = tables.remove(process) {
+        let_go_all(&mut table, objects);
     }
 }
 

@@ -2,13 +2,13 @@
 use crate::stdout_kernel::{PID, TID, answer_to, expire, stdout_kernel, write_of};
 use abi_types::{
     Answer, Bytes, Call, CallNumber, Denial, Errno, Payload, Pid, Reply, Rights, Signal, Tid,
-    TidList, WakeIn, WordWrites,
+    WakeIn, WordWrites,
 };
 use block_list::BlockList;
 use denied_calls::DeniedCall;
 use kernel_core::Kernel;
 use run_report::report;
-use run_types::{Act, Entry};
+use run_types::{Act, Entry, TurnList};
 use std::alloc::{AllocError, Global};
 use std::test::Fail;
 
@@ -106,7 +106,7 @@ fn write(
             moment: kernel.moment(),
             pid: PID,
             tid: TID,
-            turns: TidList::new(alloc),
+            turns: TurnList::new(alloc),
             act: Act::Call { call, answer },
         });
     }
@@ -169,7 +169,7 @@ fn of_another(alloc: Global, act: Act) -> Entry {
         moment: 0,
         pid: Pid(0xabc_def0),
         tid: Tid(12),
-        turns: TidList::new(alloc),
+        turns: TurnList::new(alloc),
         act,
     }
 }
@@ -180,7 +180,7 @@ fn of_first(alloc: Global, moment: u64, tid: Tid, act: Act) -> Entry {
         moment,
         pid: PID,
         tid,
-        turns: TidList::new(alloc),
+        turns: TurnList::new(alloc),
         act,
     }
 }
@@ -195,8 +195,8 @@ fn denied(alloc: Global, number: u64, base: Rights, inheriting: Rights) -> Entry
 }
 
 // Three turns of a thread.
-fn three_turns(alloc: Global) -> Result<TidList, AllocError> {
-    let mut turns = TidList::new(alloc);
+fn three_turns(alloc: Global) -> Result<TurnList, AllocError> {
+    let mut turns = TurnList::new(alloc);
     for _ in 0..3 {
         turns.push(Tid(7))?;
     }

@@ -7,8 +7,8 @@ use Rattle.path_lookup.specs.Split.{Component, is_absolute, text_components}
 use Rattle.path_lookup.specs.Walk.{Finds, Onward, walk_within, climb, follow, stand, by_finding, by_treatment, step, is_last, follows_last, most_links, most_components}
 use Rattle.path_lookup.specs.declared.ends.WalkMode.{WalkMode}
 use Rattle.path_lookup.specs.declared.ends.WalkFault.TheVariants as fault
-use Rattle.path_lookup.specs.declared.treatment.Treatment.{Treatment}
-use Rattle.path_lookup.specs.declared.treatment.Treatment.TheVariants as treatment
+use Rattle.path_lookup.specs.declared.walker.Treatment.{Treatment}
+use Rattle.path_lookup.specs.declared.walker.Treatment.TheVariants as treatment
 
 -- two ways to go on that are one in the set
 abbrev GoAlike : (ℕ → Bool) → Onward → Onward → Type 0

@@ -8,8 +8,8 @@ use Rattle.path_lookup.specs.Walk.{WalkEnd, Finds, Onward, walk_of, walk_compone
 use Rattle.path_lookup.specs.declared.ends.End.TheVariants as end
 use Rattle.path_lookup.specs.declared.ends.WalkFault.TheVariants as fault
 use Rattle.path_lookup.specs.declared.ends.WalkMode.{WalkMode}
-use Rattle.path_lookup.specs.declared.treatment.Treatment.{Treatment}
-use Rattle.path_lookup.specs.declared.treatment.Treatment.TheVariants as treatment
+use Rattle.path_lookup.specs.declared.walker.Treatment.{Treatment}
+use Rattle.path_lookup.specs.declared.walker.Treatment.TheVariants as treatment
 
 -- the directories on the way from the start are in the set
 abbrev pub AreIn : (ℕ → Bool) → List ℕ → Type 0

@@ -8,8 +8,8 @@ use Rattle.path_lookup.specs.Walk.{WalkEnd, Finds, Onward, walk_of, walk_compone
 use Rattle.path_lookup.specs.declared.ends.End.TheVariants as end
 use Rattle.path_lookup.specs.declared.ends.WalkFault.TheVariants as fault
 use Rattle.path_lookup.specs.declared.ends.WalkMode.{WalkMode}
-use Rattle.path_lookup.specs.declared.treatment.Treatment.{Treatment}
-use Rattle.path_lookup.specs.declared.treatment.Treatment.TheVariants as treatment
+use Rattle.path_lookup.specs.declared.walker.Treatment.{Treatment}
+use Rattle.path_lookup.specs.declared.walker.Treatment.TheVariants as treatment
 
 -- where the walk leads outside, its component has at most this index
 abbrev pub LeavesBy : ℕ → WalkEnd → Type 0

@@ -11,8 +11,8 @@ use Rattle.path_lookup.specs.Walk.{WalkEnd, Finds, Onward, walk_of, walk_compone
 use Rattle.path_lookup.specs.declared.ends.End.TheVariants as end
 use Rattle.path_lookup.specs.declared.ends.WalkFault.TheVariants as fault
 use Rattle.path_lookup.specs.declared.ends.WalkMode.{WalkMode}
-use Rattle.path_lookup.specs.declared.treatment.Treatment.{Treatment}
-use Rattle.path_lookup.specs.declared.treatment.Treatment.TheVariants as treatment
+use Rattle.path_lookup.specs.declared.walker.Treatment.{Treatment}
+use Rattle.path_lookup.specs.declared.walker.Treatment.TheVariants as treatment
 
 -- ---- the split
 

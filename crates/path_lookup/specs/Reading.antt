@@ -4,7 +4,7 @@ use Rattle.std.specs.List.{AllByRecursion, flat_map}
 use Rattle.path_lookup.specs.Split.{Piece, piece, added_dot, names_from, Component, counted_from, given_at}
 use Rattle.path_lookup.specs.declared.frames.Component as code
 use Rattle.path_lookup.specs.declared.frames.Frame.{Frame}
-use Rattle.path_lookup.specs.declared.texts.Place.{Place}
+use Rattle.path_lookup.specs.declared.frames.Place.{Place}
 
 -- ---- a text
 

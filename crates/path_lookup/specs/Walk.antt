@@ -9,8 +9,8 @@ use Rattle.path_lookup.specs.declared.ends.WalkFault.{WalkFault}
 use Rattle.path_lookup.specs.declared.ends.WalkFault.TheVariants as fault
 use Rattle.path_lookup.specs.declared.ends.WalkMode.{WalkMode}
 use Rattle.path_lookup.specs.declared.ends.WalkMode.TheVariants as mode
-use Rattle.path_lookup.specs.declared.treatment.Treatment.{Treatment}
-use Rattle.path_lookup.specs.declared.treatment.Treatment.TheVariants as treatment
+use Rattle.path_lookup.specs.declared.walker.Treatment.{Treatment}
+use Rattle.path_lookup.specs.declared.walker.Treatment.TheVariants as treatment
 
 -- the end of a walk, or why it has none
 abbrev pub WalkEnd : Type 0

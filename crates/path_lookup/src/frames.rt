@@ -1,15 +1,66 @@
-//! The texts whose components are left: the path, and the texts of the symlinks that are being followed.
-ghost use Rattle.std.specs.Prelude.{◌≡◌, ◌≤◌, ◌<◌, ◌+◌, true, [], ◌∷◌, ◌++◌, length, reverse, IfSome, IfNone};
+//! The texts whose components are left: the path, and the texts of the symlinks that are being followed. And reading the next name of one.
+ghost use Rattle.std.specs.Prelude.{◌≡◌, ◌≢◌, ◌≤◌, ◌<◌, ◌+◌, true, [], ◌∷◌, ◌++◌, drop, length, reverse, slice_index, slice_range, IfSome, IfNone};
 ghost use Rattle.arrayvec.specs.ArrayVec.{array_vec_len};
-ghost use Rattle.path_lookup.specs.Split.{names_of, is_absolute};
+ghost use Rattle.path_lookup.specs.Split.{names_from, names_of, is_absolute};
 ghost use Rattle.path_lookup.specs.Walk.{is_last};
 ghost use Rattle.path_lookup.specs.Reading.{IsFrame, AreFrames, component_of, component, components_from, next_index, names_after, name_at, rest_of, coming};
 
-use crate::texts::{Place, next_place};
 use arrayvec::ArrayVec;
 
 /// How many texts a walk may read at once: the path, and one of each symlink that it may follow.
 const MOST_TEXTS: usize = 33;
+
+// Where a name stands in a text: how many bytes stand before it, and before its end.
+#[derive(Clone, Copy)]
+struct Place {
+    from: usize,
+    end: usize,
+}
+
+// The first place, from this one on, where no slash stands.
+fn skip_slashes(text: &[u8], at: usize) -> usize
+    requires { at ≤ length text.now }
+    ensures from { at ≤ result }
+    ensures within { result ≤ length text.now }
+    ensures other { result < length text.now → slice_index text.now result ≢ 47 }
+    ensures same { names_from at [] (drop at text.now) ≡ names_from result [] (drop result text.now) }
+{
+    let mut from = at;
+    while from < text.len() && text[from] == b'/' {
+        from += 1;
+    }
+    from
+}
+
+// The first place, from this one on, where a slash stands, or the text's end.
+fn end_of_name(text: &[u8], from: usize) -> usize
+    requires { from ≤ length text.now }
+    ensures from { from ≤ result }
+    ensures within { result ≤ length text.now }
+    ensures slash { result < length text.now → slice_index text.now result ≡ 47 }
+    ensures same { names_from from [] (drop from text.now) ≡ names_from from (slice_range text.now from result) (drop result text.now) }
+{
+    let mut end = from;
+    while end < text.len() && text[end] != b'/' {
+        end += 1;
+    }
+    end
+}
+
+// Where the next name of a text stands, from a place on. Where no name is left, this is the text's end.
+fn next_place(text: &[u8], at: usize) -> Place
+    requires { at ≤ length text.now }
+    ensures from { at ≤ result.from }
+    ensures order { result.from ≤ result.end }
+    ensures within { result.end ≤ length text.now }
+    ensures read { names_from at [] (drop at text.now) ≡ name_at text.now result ∷ names_after text.now result.end }
+{
+    let from = skip_slashes(text, at);
+    Place {
+        from,
+        end: end_of_name(text, from),
+    }
+}
 
 /// A text, some names of which are left.
 #[derive(Clone, Copy, Default)]

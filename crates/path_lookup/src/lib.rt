@@ -17,6 +17,4 @@ mod ends;
 mod frames;
 pub mod laws;
 mod lookup;
-mod texts;
-mod treatment;
 mod walker;

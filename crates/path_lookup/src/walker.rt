@@ -1,8 +1,8 @@
-//! One component after the other.
+//! One component after the other: how it is treated, and what comes of it.
 ghost use Rattle.std.specs.Prelude.{◌≡◌, ◌≤◌, ◌<◌, ◌+◌, true, []};
 ghost use Rattle.arrayvec.specs.ArrayVec.{array_vec_len};
 ghost use Rattle.path_lookup.specs.Split.{Component as Part, names_of};
-ghost use Rattle.path_lookup.specs.Walk.{Onward, is_last, climb, lack, stand, follow, meet, enter, by_finding, step, spent, follows_last};
+ghost use Rattle.path_lookup.specs.Walk.{Onward, is_last, climb, lack, stand, follow, meet, enter, by_finding, step, spent, follows_last, stops_before_last, treatment_of};
 ghost use Rattle.path_lookup.specs.Finding.{finding};
 ghost use Rattle.path_lookup.specs.Reading.{component_of, components_from, coming};
 ghost use Rattle.path_lookup.specs.Walking.{IsReady, led, left_of, parents_of};
@@ -10,7 +10,6 @@ ghost use Rattle.path_lookup.specs.Walking.{IsReady, led, left_of, parents_of};
 use crate::directories::{Dirs, Found};
 use crate::ends::{End, WalkFault, WalkMode};
 use crate::frames::{Component, Frames, is_absolute, is_last, next_component, put_text};
-use crate::treatment::{Treatment, treatment_of};
 use abi_base::ObjId;
 use arrayvec::ArrayVec;
 
@@ -19,6 +18,51 @@ pub(crate) const MOST_COMPONENTS: usize = 1024;
 
 /// How many symlinks a walk follows.
 const MOST_LINKS: usize = 32;
+
+// How many bytes a name may have.
+const LONGEST_NAME: usize = 255;
+
+// How a component is treated, by its name.
+#[derive(Clone, Copy)]
+enum Treatment {
+    /// Its name is too long.
+    Refused,
+    /// It is the last, and the walk stops before it.
+    Left,
+    /// It is `.`.
+    Dropped,
+    /// It is `..`.
+    Climbed,
+    /// It is looked up.
+    LookedUp,
+}
+
+// Whether a walk in this mode leaves the last component.
+fn stops_before_last(mode: WalkMode) -> bool
+    ensures { result ≡ stops_before_last mode }
+{
+    match mode {
+        WalkMode::Follow | WalkMode::NoFollow => false,
+        WalkMode::Parent => true,
+    }
+}
+
+// How a component is treated, by its name and whether it is the last.
+fn treatment_of(mode: WalkMode, name: &[u8], is_last: bool) -> Treatment
+    ensures { result ≡ treatment_of mode name.now is_last }
+{
+    if name.len() > LONGEST_NAME {
+        Treatment::Refused
+    } else if is_last && stops_before_last(mode) {
+        Treatment::Left
+    } else if name == b".".as_slice() {
+        Treatment::Dropped
+    } else if name == b"..".as_slice() {
+        Treatment::Climbed
+    } else {
+        Treatment::LookedUp
+    }
+}
 
 /// Where a walk stands.
 #[derive(Drop)]

@@ -4,14 +4,9 @@
 #![tactic(auto)]
 
 pub use clocks::{is_due, poll_deadline, soon, sooner};
-pub use events::event_of;
 pub use polls::{poll, poll_waits};
-pub use subscriptions::lock_subscription;
-pub use surroundings::Surroundings;
+pub use subscriptions::{Surroundings, event_of, lock_subscription};
 
 mod clocks;
-mod ends;
-mod events;
 mod polls;
 mod subscriptions;
-mod surroundings;

@@ -4,8 +4,7 @@ ghost use Rattle.kernel_model.specs.Families.Polls as model;
 ghost use Rattle.kernel_model.specs.Outcome.{is_parked, IsSuccess};
 ghost use Rattle.poll_set.specs.Polls.{is_told, poll_outcome, sight};
 
-use crate::subscriptions::event_now;
-use crate::surroundings::Surroundings;
+use crate::subscriptions::{Surroundings, event_now};
 use abi_types::{Answer, EventList, Payload, Subscription, WordWrites};
 use fd_table::FdTable;
 use right_rules::success_with;

@@ -11,11 +11,11 @@ ghost use Rattle.process_cell.specs.Steps.{IsCalled, IsForked, IsFinished, IsEnd
 use crate::results::{
     Did, Phase, born, gives_way, going_on, one_running, phase_after_turn, settle,
 };
-use abi_types::{Call, Pid, Signal, Tid, TidList};
+use abi_types::{Call, Pid, Signal, Tid};
 use guest_process::{FIRST_THREAD, Guest};
 use kernel_cell::{After, Asked, Body, Came, Cell, Doing, EndBy, Naming, Pass};
 use maps::NumMap;
-use run_types::Launch;
+use run_types::{Launch, TurnList};
 use rv_interp::TurnEnd;
 use std::alloc::{AllocError, Global};
 use std::marker::Model;
@@ -99,7 +99,7 @@ impl<J: Naming> Process<J> {
             body: Body {
                 guest,
                 threads,
-                turns: TidList::new(alloc),
+                turns: TurnList::new(alloc),
             },
             phase: Phase::Lives,
             pass,
@@ -209,7 +209,7 @@ impl<J: Naming> Process<J> {
             body: Body {
                 guest,
                 threads,
-                turns: TidList::new(worker.alloc),
+                turns: TurnList::new(worker.alloc),
             },
             phase: Phase::Lives,
             pass,

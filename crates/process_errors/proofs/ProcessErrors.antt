@@ -122,21 +122,21 @@ stops_are _ is = absurd (ends_then is) where
   ends_then : ends ≡ stops → ⊥
   ends_then e = cc
 
-raises : (p : ℕ) (own : Option ProcessState) (signal : Signal) (kind : Raised) → (raised_by signal ≡ kind) → ¬ IsStopping (number_of signal)
-    → (raise_as kind p own signal).answer ≡ answer.Reply (success 0 0)
-raises p own signal stops is isnt = absurd (isnt (stops_are signal is))
-raises p own signal passes is isnt = refl
-raises p own signal ends is isnt = refl
+raises : (p : ℕ) (signal : Signal) (kind : Raised) → (raised_by signal ≡ kind) → ¬ IsStopping (number_of signal)
+    → (raise_as kind p signal).answer ≡ answer.Reply (success 0 0)
+raises p signal stops is isnt = absurd (isnt (stops_are signal is))
+raises p signal passes is isnt = refl
+raises p signal ends is isnt = refl
 
 module _ (constants : Constants) (S : State) (who : Who) (number : ℕ) (table : Table) (own : ProcessState)
     (unrefused : IsUnrefused S who (ProcRaise number) table own) where
   raised_as : (o : Option Signal) → signal_of number ≡ o
-      → (raise_of who.pid (get S.processes who.pid) o).answer ≡ step_answer constants S who (ProcRaise number)
+      → (raise_of who.pid o).answer ≡ step_answer constants S who (ProcRaise number)
   raised_as o is =
-      sym (answer_is constants S who (ProcRaise number) table own unrefused ∙ ap (λ s. (raise_of who.pid (get S.processes who.pid) s).answer) is)
+      sym (answer_is constants S who (ProcRaise number) table own unrefused ∙ ap (λ s. (raise_of who.pid s).answer) is)
 
   stopped : (k : ℕ) (signal : Signal) → number ≡ k → signal_of k ≡ Some signal
-      → (raise_of who.pid (get S.processes who.pid) (Some signal)).answer ≡ step_answer constants S who (ProcRaise number)
+      → (raise_of who.pid (Some signal)).answer ≡ step_answer constants S who (ProcRaise number)
   stopped k signal is found = raised_as (Some signal) (ap signal_of is ∙ found)
 
   raise_sound : (given : Answer) → RaiseComesTo number given → given ≡ step_answer constants S who (ProcRaise number)
@@ -151,7 +151,7 @@ module _ (constants : Constants) (S : State) (who : Who) (number : ℕ) (table :
   raise_sound given (stopping (inr (inr (inr is)))) = stopped 20 Ttou is refl
   raise_sound given (raised some few isnt) =
       let found = found_in number 1 signals signals_numbered (omega (arith, some)) (omega (arith, few)) in
-      sym (raises who.pid (get S.processes who.pid) found.0 (raised_by found.0) refl (λ is. isnt (subst IsStopping found.2 is)))
+      sym (raises who.pid found.0 (raised_by found.0) refl (λ is. isnt (subst IsStopping found.2 is)))
       ∙ raised_as (Some found.0) found.1
 
 stopping_or : (number : ℕ) → IsStopping number ⊎ (¬ IsStopping number)

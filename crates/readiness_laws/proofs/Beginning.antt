@@ -1,7 +1,7 @@
 -- Threads that begin to wait.
 --     begins_unready
 --     parked_unready      before the call has ended
-use Rattle.std.proofs.Common.{◌≡◌, ◌+◌, false, not, inl, inr, Option, None, Some, IsSome, is_some, refl, sym, ap, subst, ◌∙◌}
+use Rattle.std.proofs.Common.{◌≡◌, ◌+◌, false, not, inl, inr, Option, None, Some, IsSome, refl, sym, ap, subst, ◌∙◌}
 use Rattle.std.specs.Prelude.{if◌then◌else◌}
 use Rattle.std.specs.Ordering.{nat_cmp}
 use Rattle.std.specs.Option.{option_map}
@@ -16,6 +16,7 @@ use Rattle.abi_types.specs.declared.who.Who.{Who}
 use Rattle.kernel_model.specs.Calls.{meaning_of, refusal}
 use Rattle.kernel_model.specs.Deadlines.{is_due}
 use Rattle.kernel_model.specs.Outcome.{Outcome, is_parked}
+use Rattle.kernel_model.specs.Release.{lives}
 use Rattle.kernel_model.specs.State.{State, ProcessState, Table, no_state, thread_of}
 use Rattle.kernel_model.specs.Step.{outcome_by, step_answer, tick, IsStep}
 use Rattle.kernel_model.specs.Valid.{IsValid}
@@ -67,7 +68,7 @@ module _ (constants : Constants) (S : State) (who : Who) (call : Call) (writes :
       ap (is_ready_as constants T who.pid who.tid) waits
       ∙ ap (λ b. if b then goes_on_at (stage_after call who.stage (S.clock + 1000)) (is_due T.clock until) else is_done_now constants T by call) plain
       ∙ sym (over_is constants T by call plain)
-      ∙ not_over constants S who call writes answered plain (get S.tables who.pid) refl (valid.nearly.tables who.pid ∙ ap is_some live)
+      ∙ not_over constants S who call writes answered plain (get S.tables who.pid) refl (valid.nearly.tables who.pid ∙ ap lives live)
 
 module _ (constants : Constants) (S : State) (who : Who) (call : Call) (writes : WordWrites) (T : State)
     (step : IsStep constants S who call (answer.Parked writes) T)

@@ -14,12 +14,12 @@ use Rattle.abi_types.specs.declared.reply.Answer.TheVariants as answer
 use Rattle.abi_types.specs.declared.thread.Thread.{Thread}
 use Rattle.abi_types.specs.declared.wake.WakeIn.TheVariants as wake
 use Rattle.abi_types.specs.declared.who.Who.{Who}
-use Rattle.maps.specs.Maps.{get-insert-other}
+use Rattle.maps.specs.Maps.{get-insert-other, get-remove-other}
 use Rattle.kernel_model.specs.Deadlines.{idle_state, is_due, least_deadline}
 use Rattle.kernel_model.specs.Families.Locks.{with_word}
 use Rattle.kernel_model.specs.Families.ProcessCalls.{end_updates}
 use Rattle.kernel_model.specs.Release.{release}
-use Rattle.kernel_model.specs.State.{State, ProcessState, Update, Agree, put_all, put_one, set_chan, set_open, set_process, set_status, set_table, thread_in, thread_of}
+use Rattle.kernel_model.specs.State.{State, ProcessState, Update, Agree, put_all, put_one, drop_own, set_chan, set_open, set_process, set_status, set_table, thread_in, thread_of}
 use Rattle.kernel_model.specs.Step.{end_unreleased, outcome, step_state, tick, unreleased}
 use Rattle.kernel_model.specs.Waits.{resumed, waiting, waits_if}
 use Rattle.kernel_model.proofs.Deadlines.{jump_goes_on}
@@ -128,6 +128,9 @@ one_is_local : (update : Update) (S : State) → ChangesOnly (set_by update) S (
 one_is_local (set_table p table) S (on_table q) h = sym (get-insert-other S.tables p table q (other_number p q h))
 one_is_local (set_process p own) S (on_thread q t) h =
     same_own S (put_one (set_process p own) S) q (sym (get-insert-other S.processes p own q (other_number p q h))) t
+one_is_local (drop_own p) S (on_table q) h = sym (get-remove-other S.tables p q (other_number p q h))
+one_is_local (drop_own p) S (on_thread q t) h =
+    same_own S (put_one (drop_own p) S) q (sym (get-remove-other S.processes p q (other_number p q h))) t
 one_is_local (set_status p status) S (on_end q) h = sym (get-insert-other S.statuses p status q (other_number p q h))
 one_is_local (set_open o kind) S (on_open r) h = ap bare (sym (get-insert-other S.opens o kind r (other_number o r h)))
 one_is_local (set_open o kind) S (on_flags r) h = ap never_waits (sym (get-insert-other S.opens o kind r (other_number o r h)))
@@ -187,7 +190,7 @@ wakes_are_local constants S who call (wake.Plain word) answered T is =
 
 pub ends_are_local : EndsAreLocal
 ends_are_local S p status =
-    let us = end_updates p (get S.processes p) status in
+    let us = end_updates p status in
     let V = end_unreleased S p status in
     subst (ChangesOnly (end_changes S p status) S) (sym (end_is S p status))
     (changes_follow (moments S.clock (S.clock + 1000)) _ S (tick S) (release V) (tick_is_local S)

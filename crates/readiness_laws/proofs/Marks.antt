@@ -102,10 +102,10 @@ entries_go_over = record {
     opens = wake_opens constants S who call given answered T wakes valid;
     deadlines = deadlines;
   };
-  ends = λ constants S p status there valid deadlines. record {
+  ends = λ constants S p status there dead valid deadlines. record {
     only = ends_are_local S p status;
     before = valid;
-    after = end_valid S p status there valid;
+    after = end_valid S p status there dead valid;
     opens = ends_keep_opens S p status;
     deadlines = deadlines;
   };

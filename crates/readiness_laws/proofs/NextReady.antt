@@ -139,7 +139,7 @@ moment_itself : (m : ℕ) (o : Option ℕ) → o ≡ Some m → is_moment m o �
 moment_itself m o is = ap (is_moment m) is ∙ eq-eqb m m refl
 
 -- whoever waits until a moment, which counts where it is its call's deadline
-waits_until : (constants : Constants) (S : State) (p t m : ℕ) (o : Option Thread) → HasDeadline constants o → thread_of S p t ≡ o → until_in o ≡ Some m
+pub waits_until : (constants : Constants) (S : State) (p t m : ℕ) (o : Option Thread) → HasDeadline constants o → thread_of S p t ≡ o → until_in o ≡ Some m
     → WaitsUntil S p t m
 waits_until constants S p t m None deadline is until = absurd (none_is_no m until)
 waits_until constants S p t m (Some Runnable) deadline is until = absurd (none_is_no m until)
@@ -150,6 +150,16 @@ waits_until constants S p t m (Some (Waits call since other stage)) deadline is 
   is ∙ ap (λ o. Some (Waits call since o stage)) until,
   soon_is_soon other m (until_counts constants call since other stage deadline ∙ until),
 )
+
+-- there is one least deadline
+pub one_least : (S : State) (first second : Option ℕ) → IsLeastDeadline S first → IsLeastDeadline S second → first ≡ second
+one_least S None None one other = refl
+one_least S None (Some m) one other = absurd (one other.0.0 other.0.1 m other.0.2)
+one_least S (Some m) None one other = absurd (other one.0.0 one.0.1 m one.0.2)
+one_least S (Some m) (Some n) one other =
+    let up = one.1 other.0.0 other.0.1 n other.0.2 in
+    let down = other.1 one.0.0 one.0.1 m one.0.2 in
+    ap Some (omega (arith, up, down))
 
 -- somebody awaits a moment exactly where it is in somebody's list
 some_awaited : (W : WaitMap) (m : ℕ) → is_awaited W m ≡ true → (k : ℕ) × (w : Waiting) × (get W k ≡ Some w) × (lists (spot.Moment m) w ≡ true)
@@ -201,17 +211,8 @@ module _ (constants : Constants) (S : State) (W : WaitMap) (watched : AreEntries
   first_is_least None none = λ p t m waits. not_true (sym (none m refl) ∙ someone_awaits p t m waits)
   first_is_least (Some m) next = (awaited_until m next.1, λ p t other waits. next.2 other refl (someone_awaits p t other waits))
 
-  one_least : (first second : Option ℕ) → IsLeastDeadline S first → IsLeastDeadline S second → first ≡ second
-  one_least None None one other = refl
-  one_least None (Some m) one other = absurd (one other.0.0 other.0.1 m other.0.2)
-  one_least (Some m) None one other = absurd (other one.0.0 one.0.1 m one.0.2)
-  one_least (Some m) (Some n) one other =
-      let up = one.1 other.0.0 other.0.1 n other.0.2 in
-      let down = other.1 one.0.0 one.0.1 m one.0.2 in
-      ap Some (omega (arith, up, down))
-
   least_entry : (result : Option ℕ) → IsNext (is_awaited W) None result → least_deadline S ≡ result
-  least_entry result next = one_least (least_deadline S) result (least_is_least S) (first_is_least result next)
+  least_entry result next = one_least S (least_deadline S) result (least_is_least S) (first_is_least result next)
 
 pub next_moment_is_least : (constants : Constants) (S : State) (W : WaitMap) → IsWatched S W → HasDeadlines constants S → NoneSpread W
     → (result : Option ℕ) → IsNext (is_awaited W) None result → least_deadline S ≡ result

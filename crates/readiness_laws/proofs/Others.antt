@@ -97,6 +97,6 @@ others_look_elsewhere = record {
       goes_on constants (wake_changes constants S who call given) S T (entries_go_over.wakes constants S who call given answered T wakes valid deadlines) p t
       (wake_leaves constants S who call given answered T wakes valid kept p t other (elsewhere.there, elsewhere.lives)) elsewhere.apart;
   ends = λ constants S p status dead there valid deadlines q t apart elsewhere.
-      goes_on constants (end_changes S p status) S (end_state S p status) (entries_go_over.ends constants S p status there valid deadlines) q t
+      goes_on constants (end_changes S p status) S (end_state S p status) (entries_go_over.ends constants S p status there dead valid deadlines) q t
       (other_process S (end_state S p status) q t elsewhere.lives ((end_ends_only S p status dead).others q apart)) elsewhere.apart;
 }

@@ -165,6 +165,6 @@ places_are_kept = record {
       kept S T valid (step_keeps_valid constants S who call given T step valid) (opens_stay constants S who call given T valid step) p t stayed;
   wakes = λ constants S who call given answered T wakes valid p t stayed.
       kept S T valid (wake_keeps_valid constants S who call given answered T wakes valid) (wake_opens constants S who call given answered T wakes valid) p t stayed;
-  ends = λ S p status there valid q t stayed.
-      kept S (end_state S p status) valid (end_valid S p status there valid) (ends_keep_opens S p status) q t stayed;
+  ends = λ S p status there dead valid q t stayed.
+      kept S (end_state S p status) valid (end_valid S p status there dead valid) (ends_keep_opens S p status) q t stayed;
 }

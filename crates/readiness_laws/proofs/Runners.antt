@@ -6,7 +6,7 @@ use Rattle.std.specs.Option.{option_map}
 use Rattle.abi_types.specs.declared.thread.Thread.{Thread}
 use Rattle.abi_types.specs.declared.thread.Thread.TheVariants.{Runnable, Waits}
 use Rattle.maps.specs.Closure.{total_zero_exactly}
-use Rattle.maps.specs.Maps.{total, total-insert, weight}
+use Rattle.maps.specs.Maps.{total, total-insert, total-remove, weight}
 use Rattle.kernel_model.specs.State.{ProcessState, State, thread_in, thread_of}
 use Rattle.kernel_model.specs.Waits.{IsParked, with_thread}
 use Rattle.kernel_model.specs.Wakes.{HasThread}
@@ -67,4 +67,5 @@ runners_are_counted = record {
   none = λ S. (all_wait S, none_runs S);
   threads = thread_counts;
   processes = λ S p own. total-insert running_in S.processes p own;
+  gone = λ S p. total-remove running_in S.processes p;
 }

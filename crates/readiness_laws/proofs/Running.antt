@@ -5,25 +5,24 @@
 --     all_parked, parked_exactly      some thread is there, and each waits
 --     jump_exactly, stall_exactly      where time may jump, and where nothing happens any more
 --     runners_are_told
-use Rattle.std.proofs.Common.{◌≡◌, ◌≢◌, ◌↔◌, ℕ, ◌/◌, ◌%◌, ◌^◌, true, false, Option, None, Some, IsSome, is_some, refl, sym, ap, subst, ◌∙◌, arith}
-use Rattle.std.specs.Ordering.{nat_cmp}
+use Rattle.std.proofs.Common.{◌≡◌, ◌↔◌, ℕ, ◌/◌, ◌%◌, ◌^◌, true, false, Option, None, Some, IsSome, refl, sym, ap, subst, ◌∙◌, arith}
 use Rattle.std.specs.Option.{option_map}
-use Rattle.std.specs.FinMap.{get, get-empty}
+use Rattle.std.specs.FinMap.{get}
 use Rattle.abi_types.specs.declared.constants.Constants.{Constants}
-use Rattle.abi_types.specs.declared.status.Status.{Status}
-use Rattle.abi_types.specs.declared.status.Status.TheVariants.{Exit, Killed, Live}
+use Rattle.abi_types.specs.declared.status.Status.TheVariants.{Live}
 use Rattle.abi_types.specs.declared.thread.Thread.{Thread}
 use Rattle.abi_types.specs.declared.thread.Thread.TheVariants.{Runnable, Waits}
 use Rattle.kernel_model.specs.Deadlines.{least_deadline}
 use Rattle.maps.specs.Closure.{total_ones}
 use Rattle.maps.specs.Maps.{least_key, least_key-entry, least_key-none, passes, total_none, total-zero, weight}
-use Rattle.kernel_model.specs.State.{ProcessState, State, Threads, thread_in, thread_of}
+use Rattle.kernel_model.specs.State.{ProcessState, State, thread_in, thread_of}
 use Rattle.kernel_model.specs.Valid.{IsValid}
 use Rattle.kernel_model.specs.WaitLaws.{IsLeastDeadline}
 use Rattle.kernel_model.specs.Waits.{IsParked}
 use Rattle.kernel_model.specs.Wakes.{AllParked, HasThread, IsStalled, MayJump, NoneReady}
 use Rattle.kernel_model.proofs.Readiness.{least_is_least}
 use Rattle.kernel_model.proofs.Tests.{none_is_no, not_true}
+use Rattle.kernel_model.proofs.Valids.{lives_by}
 use Rattle.kernel_parts.specs.Keys.{key}
 use Rattle.wait_set.specs.declared.waiting.Waiting.{Waiting}
 use Rattle.wait_set.specs.Waits as waits
@@ -54,20 +53,13 @@ some_held W some =
 
 -- ---- a thread is of a live process
 
-live_by : (o : Option Status) → IsSome o → ((status : Status) → o ≡ Some status → status ≢ Live → ⊥) → o ≡ Some Live
-live_by None there dead = absurd (not_true there)
-live_by (Some Live) there dead = refl
-live_by (Some (Exit code)) there dead = absurd (dead (Exit code) refl (λ e. cc))
-live_by (Some (Killed signal)) there dead = absurd (dead (Killed signal) refl (λ e. cc))
-
 made_by : (o : Option ProcessState) (t : ℕ) → IsSome (thread_in (option_map (λ (own : ProcessState). own.threads) o) t) → IsSome o
 made_by None t there = there
 made_by (Some own) t there = refl
 
 pub thread_lives : (S : State) (p t : ℕ) → IsValid S → IsSome (thread_of S p t) → get S.statuses p ≡ Some Live
 thread_lives S p t valid there =
-    live_by (get S.statuses p) (sym (valid.nearly.owns p) ∙ made_by (get S.processes p) t there)
-    (λ status is dead. not_true (sym (ap is_some (get-empty nat_cmp t)) ∙ subst (λ (o : Option Threads). IsSome (thread_in o t)) (valid.nearly.ended p status is dead).1 there))
+    lives_by (get S.statuses p) (sym (valid.nearly.owns p) ∙ made_by (get S.processes p) t there)
 
 -- ---- threads that run, and those that wait
 

@@ -7,12 +7,11 @@ use Rattle.abi_types.specs.declared.status.Status.{Status}
 use Rattle.abi_types.specs.declared.wake.WakeIn.{WakeIn}
 use Rattle.abi_types.specs.declared.wake.WakeIn.TheVariants as wake
 use Rattle.abi_types.specs.declared.who.Who.{Who}
-use Rattle.std.specs.FinMap.{get}
 use Rattle.kernel_model.specs.Families.Locks.{with_word}
 use Rattle.kernel_model.specs.Families.ProcessCalls.{end_updates}
 use Rattle.kernel_model.specs.Outcome.{is_parked}
 use Rattle.kernel_model.specs.Release.{is_released}
-use Rattle.kernel_model.specs.State.{State, Part, Update, at_chan, at_clock, at_open, at_proc, at_status, set_chan, set_open, set_process, set_status, set_table}
+use Rattle.kernel_model.specs.State.{State, Part, Update, at_chan, at_clock, at_open, at_proc, at_status, drop_own, set_chan, set_open, set_process, set_status, set_table}
 use Rattle.kernel_model.specs.Step.{end_unreleased, outcome, unreleased}
 use Rattle.kernel_model.specs.Waits.{resumed}
 use Rattle.readiness_laws.specs.Spots.{Spot, IsSame, on_channel, on_end, on_flags, on_moment, on_open, on_table, on_thread}
@@ -37,11 +36,14 @@ of_thread p t spot = false
 
 -- ---- updates
 
--- A table that is set concerns those that wait on descriptors of its process, and what a process has of its own its threads. Of the file tree and the
+-- A table that is set concerns those that wait on descriptors of its process, and what a process has of its own its threads; a process that has
+-- nothing of its own any more both. Of the file tree and the
 -- standard streams nobody waits for anything.
 abbrev pub set_by : Update → Spot → Bool
 set_by (set_table p table) (on_table q) = p == q
 set_by (set_process p own) (on_thread q t) = p == q
+set_by (drop_own p) (on_table q) = p == q
+set_by (drop_own p) (on_thread q t) = p == q
 set_by (set_status p status) (on_end q) = p == q
 set_by (set_open o kind) (on_open r) = o == r
 set_by (set_open o kind) (on_flags r) = o == r
@@ -90,7 +92,7 @@ wake_changes constants S who call (wake.Plain word) = either (of_thread who.pid 
 -- the end of a process from outside
 abbrev pub end_changes : State → ℕ → Status → Spot → Bool
 end_changes S p status =
-    either (moments S.clock (S.clock + 1000)) (either (all_set_by (end_updates p (get S.processes p) status)) (ended_by (end_unreleased S p status)))
+    either (moments S.clock (S.clock + 1000)) (either (all_set_by (end_updates p status)) (ended_by (end_unreleased S p status)))
 
 -- the same change, where of the threads these alone are told
 abbrev pub telling : (ℕ → ℕ → Bool) → (Spot → Bool) → Spot → Bool

@@ -4,7 +4,7 @@ use Rattle.std.specs.FinMap.{get}
 use Rattle.abi_types.specs.declared.thread.Thread.{Thread}
 use Rattle.abi_types.specs.declared.thread.Thread.TheVariants.{Runnable, Waits}
 use Rattle.maps.specs.Maps.{total, weight}
-use Rattle.kernel_model.specs.State.{ProcessState, State, put_one, set_process, thread_of}
+use Rattle.kernel_model.specs.State.{ProcessState, State, drop_own, put_one, set_process, thread_of}
 use Rattle.kernel_model.specs.Waits.{IsParked, with_thread}
 use Rattle.kernel_model.specs.Wakes.{HasThread}
 
@@ -27,3 +27,4 @@ pub record RunnersAreCounted : Type 0 where
       → running (with_thread S p t after) + runs before ≡ running S + runs after
   pub processes : (S : State) (p : ℕ) (own : ProcessState)
       → running (put_one (set_process p own) S) + weight running_in (get S.processes p) ≡ running S + running_in own
+  pub gone : (S : State) (p : ℕ) → running (put_one (drop_own p) S) + weight running_in (get S.processes p) ≡ running S

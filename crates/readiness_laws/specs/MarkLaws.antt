@@ -5,6 +5,7 @@ use Rattle.abi_types.specs.declared.call.Call.{Call}
 use Rattle.abi_types.specs.declared.constants.Constants.{Constants}
 use Rattle.abi_types.specs.declared.reply.Answer.{Answer}
 use Rattle.abi_types.specs.declared.status.Status.{Status}
+use Rattle.abi_types.specs.declared.status.Status.TheVariants.{Live}
 use Rattle.abi_types.specs.declared.wake.WakeIn.{WakeIn}
 use Rattle.abi_types.specs.declared.who.Who.{Who}
 use Rattle.std.specs.FinMap.{get}
@@ -36,7 +37,8 @@ pub record EntriesGoOver : Type 0 where
       → HasDeadlines constants S → GoesOver constants (step_changes constants S who call) S T
   pub wakes : (constants : Constants) (S : State) (who : Who) (call : Call) (given : WakeIn) (answered : Answer) (T : State)
       → IsWake constants S who call given answered T → IsValid S → HasDeadlines constants S → GoesOver constants (wake_changes constants S who call given) S T
-  pub ends : (constants : Constants) (S : State) (p : ℕ) (status : Status) → IsSome (get S.statuses p) → IsValid S → HasDeadlines constants S
+  pub ends : (constants : Constants) (S : State) (p : ℕ) (status : Status) → IsSome (get S.statuses p) → status ≢ Live → IsValid S
+      → HasDeadlines constants S
       → GoesOver constants (end_changes S p status) S (end_state S p status)
   pub jumps : (constants : Constants) (S : State) → IsValid S → HasDeadlines constants S
       → GoesOver constants (moments S.clock (idle_state S).clock) S (idle_state S)

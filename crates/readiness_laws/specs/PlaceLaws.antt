@@ -1,5 +1,5 @@
 -- Where threads stand after the entries of a history, how one begins to wait, and how one is told: the statements that are the contract of `places_are_kept`.
-use Rattle.std.specs.Prelude.{◌≡◌, ℕ, ◌+◌, true, false, List, [], Option, None, Some, IsSome}
+use Rattle.std.specs.Prelude.{◌≡◌, ◌≢◌, ℕ, ◌+◌, true, false, List, [], Option, None, Some, IsSome}
 use Rattle.std.specs.FinMap.{get}
 use Rattle.std.specs.List.{AllByRecursion}
 use Rattle.abi_types.specs.declared.call.Call.{Call}
@@ -46,7 +46,7 @@ pub record PlacesAreKept : Type 0 where
       → (p t : ℕ) → HasStayed S T p t → spots T p t ≡ spots S p t
   pub wakes : (constants : Constants) (S : State) (who : Who) (call : Call) (given : WakeIn) (answered : Answer) (T : State)
       → IsWake constants S who call given answered T → IsValid S → (p t : ℕ) → HasStayed S T p t → spots T p t ≡ spots S p t
-  pub ends : (S : State) (p : ℕ) (status : Status) → IsSome (get S.statuses p) → IsValid S
+  pub ends : (S : State) (p : ℕ) (status : Status) → IsSome (get S.statuses p) → status ≢ Live → IsValid S
       → (q t : ℕ) → HasStayed S (end_state S p status) q t → spots (end_state S p status) q t ≡ spots S q t
 
 -- A live process's thread that begins to wait in a call isn't ready then, unless it waits for a lock or at a condition variable. Whatever it waits for, it does

@@ -2,13 +2,10 @@
 //! for all calls. The needs are borrowed from the call itself, so no list is made of them.
 #![tactic(auto)]
 
-pub use needs::{Needs, needs_of};
-pub use open_types::fits;
+pub use needs::{Needs, fits, needs_of};
 pub use refusing::refusal;
 pub use replies::{refused, success, success_with};
 
 mod needs;
-mod open_types;
 mod refusing;
 mod replies;
-mod rows;

@@ -1,21 +1,26 @@
-//! What a call needs of its descriptors.
-ghost use Rattle.std.specs.Prelude.{◌≡◌};
+//! What a call needs of its descriptors, and the rights of types.
+ghost use Rattle.std.specs.Prelude.{◌≡◌, ◌++◌, List};
 ghost use Rattle.abi_base.specs.declared.rights.TheConstants.Rights.{FILE_STAT_FPUT_SIZE, FILE_STAT_FPUT_TIMES};
+ghost use Rattle.abi_types.specs.OpenTypes.{rights_of};
+ghost use Rattle.abi_types.specs.declared.needed.Needed as needed;
 ghost use Rattle.kernel_model.specs.Calls.{named, need};
 ghost use Rattle.kernel_model.specs.Families.DescriptorCalls.{stat_put_row};
 ghost use Rattle.kernel_model.specs.Families.MemoryCalls.{map_row};
 ghost use Rattle.kernel_model.specs.Families.Opening.{open_row};
 ghost use Rattle.kernel_model.specs.Families.StreamCalls.{seek_row};
-ghost use Rattle.kernel_model.specs.Rows.{base_row, both, where_set};
-ghost use Rattle.right_rules.specs.Needs.{named_in, rows_in};
+ghost use Rattle.kernel_model.specs.Families.WaitCalls.{wait_row};
+ghost use Rattle.kernel_model.specs.Rows.{asking_row, base_row, both, either_row, where_set};
+ghost use Rattle.right_rules.specs.Needs.{named_in, of_option, rows_in};
 ghost use Rattle.right_rules.specs.declared.needs.Needs.TheVariants as needs;
 
-use crate::rows::{asking_row, base_row, both, either_row, where_set};
 use abi_types::flags::{
     FDSTAT_FLAGS, FDSTAT_RIGHTS, FILESTAT_SIZE, FILESTAT_TIMES, MAP_ANON, O_CREAT, O_TRUNC,
     PROT_EXEC, WHENCE_CUR,
 };
-use abi_types::{Call, FdStat, Needed, Rights, Subscription};
+use abi_types::{
+    Call, DIRECTORY_RIGHTS, FILE_RIGHTS, FdStat, Needed, OpenType, PROCESS_RIGHTS, READING_RIGHTS,
+    Rights, STREAM_RIGHTS, Subscription, WRITING_RIGHTS, What,
+};
 
 /// A view of the descriptors that a call names, in the order of its arguments, and of the rights that it needs of them.
 #[derive(Clone, Copy)]
@@ -34,6 +39,71 @@ pub enum Needs<'a> {
     OneAndNamed(Needed, &'a [u32]),
     /// It needs rights of the descriptors that it waits for.
     Waited(&'a [Subscription]),
+}
+
+// These base rights of the descriptor.
+fn base_row(fd: u32, base: Rights) -> Needed
+    ensures { result ≡ base_row fd base }
+{
+    asking_row(fd, base, Rights::NONE)
+}
+
+// These base rights of the descriptor, and these of its inheriting rights.
+fn asking_row(fd: u32, base: Rights, inheriting: Rights) -> Needed
+    ensures { result ≡ asking_row fd base inheriting }
+{
+    Needed {
+        fd,
+        base,
+        inheriting,
+        instead: Rights::NONE,
+    }
+}
+
+// The first base rights of the descriptor, for which the second may stand.
+fn either_row(fd: u32, base: Rights, instead: Rights) -> Needed
+    ensures { result ≡ either_row fd base instead }
+{
+    Needed {
+        fd,
+        base,
+        inheriting: Rights::NONE,
+        instead,
+    }
+}
+
+// The rights of both sets.
+fn both(this: Rights, that: Rights) -> Rights
+    ensures { result ≡ both this that }
+{
+    Rights(this.0 | that.0)
+}
+
+// The rights, where the flags have one of these bits.
+fn where_set(flags: u32, bits: u32, rights: Rights) -> Rights
+    ensures { result ≡ where_set flags bits rights }
+{
+    if flags & bits == 0 {
+        Rights::NONE
+    } else {
+        rights
+    }
+}
+
+// What is needed of the descriptor that is waited for, if one is.
+pub(crate) fn wait_row(what: &What) -> Option<Needed>
+    ensures { (rows : List needed.Needed) → wait_row what.now rows ≡ of_option result ++ rows }
+{
+    match what {
+        What::FdRead { fd } | What::FdWrite { fd } => {
+            Some(base_row(*fd, Rights::POLL_FD_READWRITE))
+        }
+        What::ProcTerminate { fd } => Some(base_row(*fd, Rights::POLL_PROC_TERMINATE)),
+        What::Clock { .. }
+        | What::Condvar { .. }
+        | What::LockRdlock { .. }
+        | What::LockWrlock { .. } => None,
+    }
 }
 
 // Base rights of one descriptor.
@@ -169,5 +239,19 @@ pub fn needs_of(call: &Call) -> Needs<'_>
         | Call::ThreadYield
         | Call::Refused { .. }
         | Call::Unknown { .. } => Needs::Nothing,
+    }
+}
+
+/// All base rights that a descriptor of an open of this type may have (docs/ABI.md names them).
+pub fn fits(kind: OpenType) -> Rights
+    ensures { result.0 ≡ rights_of kind }
+{
+    match kind {
+        OpenType::File => FILE_RIGHTS,
+        OpenType::Directory => DIRECTORY_RIGHTS,
+        OpenType::Reading => READING_RIGHTS,
+        OpenType::Writing => WRITING_RIGHTS,
+        OpenType::Stream => STREAM_RIGHTS,
+        OpenType::Process => PROCESS_RIGHTS,
     }
 }

@@ -8,9 +8,8 @@ ghost use Rattle.kernel_model.specs.Need.{some_absent, lack_at, has_instead, lac
 ghost use Rattle.kernel_model.specs.Reply as reply;
 ghost use Rattle.right_rules.specs.Needs.{named_in, rows_in};
 
-use crate::needs::{Needs, needs_of};
+use crate::needs::{Needs, needs_of, wait_row};
 use crate::replies::refused;
-use crate::rows::wait_row;
 use abi_types::{Call, Denial, Descriptor, Errno, Needed, Reply, Rights, Subscription};
 use fd_table::FdTable;
 

@@ -3,9 +3,8 @@
 --     entry_counts, all_counts      no entry takes from a count
 --     entry_bound, all_bound      they are no more than the turns that were taken allow
 --     start_counts      the counts at the start
-use Rattle.std.proofs.Common.{◌≡◌, ◌≢◌, ◌⊎◌, inl, inr, ℕ, ◌+◌, ◌*◌, ◌≤◌, true, false, Contains, List, [], ◌∷◌, length, Option, Some, None, refl, sym, ap, subst, ◌∙◌, arith}
+use Rattle.std.proofs.Common.{◌≡◌, ◌≢◌, inl, inr, ℕ, ◌+◌, ◌*◌, ◌≤◌, true, false, Contains, List, [], ◌∷◌, length, Some, None, refl, sym, ap, subst, ◌∙◌, arith}
 use Rattle.std.proofs.lemmas.Bool.Decides.{eqb_tells}
-use Rattle.std.specs.Option.{option_map}
 use Rattle.std.specs.Ordering.{nat_cmp}
 use Rattle.std.specs.Prelude.{if◌then◌else◌}
 use Rattle.std.specs.FinMap.{empty, get, get-empty}
@@ -15,20 +14,22 @@ use Rattle.abi_types.specs.declared.call.Call.{Call}
 use Rattle.abi_types.specs.declared.call.Call.TheVariants.{ProcExec, RandomGet}
 use Rattle.abi_types.specs.declared.counts.Counts.{Counts}
 use Rattle.abi_types.specs.declared.reply.Answer.{Answer}
-use Rattle.abi_types.specs.declared.status.Status.TheVariants.{Killed}
+use Rattle.abi_types.specs.declared.status.Status.{Status}
+use Rattle.abi_types.specs.declared.status.Status.TheVariants.{Killed, Live}
 use Rattle.abi_types.specs.declared.who.Who.{Who}
 use Rattle.run_types.specs.declared.history.Act.{Act}
 use Rattle.run_types.specs.declared.history.Act.TheVariants as act
 use Rattle.run_types.specs.declared.history.Entry.{Entry}
 use Rattle.run_types.specs.declared.launch.Launch.{Launch}
-use Rattle.kernel_model.specs.Families.ProcessCalls.{ended_process}
-use Rattle.kernel_model.specs.Laws.{HasSameProcess, IsKilled}
 use Rattle.kernel_model.specs.Start.{first_process}
-use Rattle.kernel_model.specs.State.{ProcessState, State, counts_in, no_counts}
+use Rattle.kernel_model.specs.State.{State, counts_in, no_counts}
+use Rattle.kernel_model.specs.Step.{end_state}
 use Rattle.kernel_model.specs.Threads.{is_done, makes_thread, threads_made, words_drawn}
 use Rattle.kernel_model.specs.Valid.{IsValid}
 use Rattle.kernel_model.specs.Waits.{may_wait, MayWait}
-use Rattle.kernel_model.proofs.Steps.{end_counts, step_moves_only}
+use Rattle.kernel_model.proofs.Steps.{end_ends_only, step_moves_only, unless_killed}
+use Rattle.kernel_model.proofs.Tests.{same_some}
+use Rattle.kernel_model.proofs.Valids.{dead_process, live_or_dead}
 use Rattle.kernel_model.proofs.Threads.{waited_draws, waited_keeps}
 use Rattle.kernel_model.proofs.Waking.{wake_moves_only}
 use Rattle.maps.specs.Maps.{get-insert-same, get-insert-other}
@@ -37,12 +38,12 @@ use Rattle.call_codec.proofs.ThreadOutputs.{random_written}
 use Rattle.run_model.specs.Ends.{turns_taken}
 use Rattle.run_model.specs.Legal.{FitsAct, Fits, FollowsFrom}
 use Rattle.run_model.specs.World.{World, Guest, acted, apply, apply_all, called_state, guest_of, registers_of, start_world, turned, turned_guest_by, who_of, woken_state}
-use Rattle.run_model.specs.Own.{born}
+use Rattle.run_model.specs.Own.{born, IsLiveIn, Made}
 use Rattle.run_model.proofs.Births.{born_is_made}
 use Rattle.run_model.proofs.BornParts.{is_child_of}
-use Rattle.run_model.proofs.Ends.{apply_process}
+use Rattle.run_model.proofs.Ends.{apply_made, apply_process, killed_is_not_live}
 use Rattle.run_model.proofs.Histories.{apply_is}
-use Rattle.run_model.proofs.Own.{born_or_not}
+use Rattle.run_model.proofs.Own.{born_or_not, live_through}
 use Rattle.run_model.proofs.Potentials.{last_take}
 use Rattle.run_model.proofs.Worlds.{apply_valid}
 
@@ -72,45 +73,47 @@ same_adds before after same =
     let words : after.words ≡ before.words = ap (λ (c : Counts). c.words) same in
     record { threads = omega (arith, threads); words = omega (arith, words) }
 
-act_counts : (w : World) (who : Who) (guest : Guest) (ts : List ℕ) (a : Act) → FitsAct w.constants w.state who guest ts a
-    → Adds (counts_of w who.pid) (counts_in (get (acted w who a).state.processes who.pid)) (act_threads a) (act_words a)
-act_counts w who guest ts (act.Call call given) fits =
-    let counts = (step_moves_only w.constants w.state who call given (called_state w.constants w.state who call given) fits.1).counts in
-    record { threads = counts.threads; words = counts.words }
-act_counts w who guest ts (act.Wake call given answered) fits =
-    let counts = (wake_moves_only w.constants w.state who call given answered (woken_state w.constants w.state who call given answered) fits.1.1).counts in
-    record { threads = counts.threads; words = counts.words }
-act_counts w who guest ts (act.Trap signal) fits = same_adds _ _ (end_counts w.state who.pid (Killed signal))
-act_counts w who guest ts act.Expire fits = same_adds _ _ (end_counts w.state who.pid (Killed Xcpu))
-act_counts w who guest ts act.Idle fits = same_adds _ _ refl
+ended_live : (S : State) (p : ℕ) (status : Status) → status ≢ Live → get (end_state S p status).statuses p ≡ Some Live → ⊥
+ended_live S p status dead live = dead (same_some status Live (sym (end_ends_only S p status dead).stands ∙ live))
 
-own_counts : (w : World) (e : Entry) → Fits w e → Adds (counts_of w e.pid) (counts_of (apply w e) e.pid) (act_threads e.act) (act_words e.act)
+act_counts : (w : World) (who : Who) (guest : Guest) (ts : List ℕ) (a : Act) → FitsAct w.constants w.state who guest ts a
+    → IsLiveIn (acted w who a) who.pid → Adds (counts_of w who.pid) (counts_in (get (acted w who a).state.processes who.pid)) (act_threads a) (act_words a)
+act_counts w who guest ts (act.Call call given) fits live =
+    let counts = (step_moves_only w.constants w.state who call given (called_state w.constants w.state who call given) fits.1).counts live in
+    record { threads = counts.threads; words = counts.words }
+act_counts w who guest ts (act.Wake call given answered) fits live =
+    let counts = (wake_moves_only w.constants w.state who call given answered (woken_state w.constants w.state who call given answered) fits.1.1).counts live in
+    record { threads = counts.threads; words = counts.words }
+act_counts w who guest ts (act.Trap signal) fits live = absurd (ended_live w.state who.pid (Killed signal) (killed_is_not_live signal) live)
+act_counts w who guest ts act.Expire fits live = absurd (ended_live w.state who.pid (Killed Xcpu) (killed_is_not_live Xcpu) live)
+act_counts w who guest ts act.Idle fits live = same_adds _ _ refl
+
+own_counts : (w : World) (e : Entry) → Fits w e → IsLiveIn (apply w e) e.pid
+    → Adds (counts_of w e.pid) (counts_of (apply w e) e.pid) (act_threads e.act) (act_words e.act)
 own_counts w e fits =
-    subst (λ (v : World). Adds (counts_of w e.pid) (counts_of v e.pid) (act_threads e.act) (act_words e.act)) (sym (apply_is w e))
+    subst (λ (v : World). IsLiveIn v e.pid → Adds (counts_of w e.pid) (counts_of v e.pid) (act_threads e.act) (act_words e.act)) (sym (apply_is w e))
     (act_counts (turned w e.pid e.turns) (who_of w.state e) (guest_of w e.pid) e.turns e.act fits.act)
 
--- a call adds to its process's counts what it makes and draws
-pub call_counts : (w : World) (e : Entry) (call : Call) (given : Answer) → Fits w e → e.act ≡ act.Call call given
+-- a call adds to the counts of its process, if that lives on, what it makes and draws
+pub call_counts : (w : World) (e : Entry) (call : Call) (given : Answer) → Fits w e → IsLiveIn (apply w e) e.pid → e.act ≡ act.Call call given
     → ((counts_of (apply w e) e.pid).threads ≡ (counts_of w e.pid).threads + threads_made call given)
     × ((counts_of (apply w e) e.pid).words ≡ (counts_of w e.pid).words + words_drawn call given)
-call_counts w e call given fits is =
-    let counts = own_counts w e fits in (
+call_counts w e call given fits live is =
+    let counts = own_counts w e fits live in (
       counts.threads ∙ ap (λ a. (counts_of w e.pid).threads + act_threads a) is,
       counts.words ∙ ap (λ a. (counts_of w e.pid).words + act_words a) is,
     )
 
 -- ---- the other processes
 
-killed_counts : (o : Option ProcessState) → counts_in (option_map (λ (own : ProcessState). ended_process (Some own)) o) ≡ counts_in o
-killed_counts None = refl
-killed_counts (Some own) = refl
+other_counts : (w : World) (e : Entry) (q : ℕ) → IsValid w.state → Fits w e → IsLiveIn (apply w e) q → q ≢ e.pid → ¬ Contains (born e.act) q
+    → counts_of (apply w e) q ≡ counts_of w q
+other_counts w e q valid fits live apart unborn =
+    ap counts_in (unless_killed w.state (apply w e).state q live (apply_process w e q valid fits apart unborn)).1
 
-left_counts : (S T : State) (q : ℕ) → HasSameProcess T S q ⊎ IsKilled S T q → counts_in (get T.processes q) ≡ counts_in (get S.processes q)
-left_counts S T q (inl same) = ap counts_in same.1
-left_counts S T q (inr killed) = ap counts_in killed.0.1 ∙ killed_counts (get S.processes q)
-
-other_counts : (w : World) (e : Entry) (q : ℕ) → IsValid w.state → Fits w e → q ≢ e.pid → ¬ Contains (born e.act) q → counts_of (apply w e) q ≡ counts_of w q
-other_counts w e q valid fits apart unborn = left_counts w.state (apply w e).state q (apply_process w e q valid fits apart unborn)
+-- of one that doesn't live nothing is counted
+dead_counts : (w : World) (q : ℕ) → IsValid w.state → (IsLiveIn w q → ⊥) → counts_of w q ≡ no_counts
+dead_counts w q valid dead = ap counts_in (dead_process w.state q valid.nearly dead)
 
 -- a child has counted its parent's threads, and drawn nothing
 record IsCounted (before parent after : Counts) : Type 0 where
@@ -139,7 +142,7 @@ entry_born w e q valid fits there =
     subst (λ (v : World). IsCounted (counts_of w q) (counts_of w e.pid) (counts_of v q)) (sym (apply_is w e))
     (act_born (turned w e.pid e.turns) (who_of w.state e) (guest_of w e.pid) e.turns e.act q valid fits.act there)
 
--- ---- no count falls
+-- ---- no count of a process that lives falls
 
 pub record NoLess (before after : Counts) : Type 0 where
   pub threads : before.threads ≤ after.threads
@@ -151,11 +154,11 @@ same_no_less before after same =
     let words : after.words ≡ before.words = ap (λ (c : Counts). c.words) same in
     record { threads = omega (arith, threads); words = omega (arith, words) }
 
-pub entry_counts : (w : World) (e : Entry) (q : ℕ) → IsValid w.state → Fits w e → NoLess (counts_of w q) (counts_of (apply w e) q)
-entry_counts w e q valid fits =
+pub entry_counts : (w : World) (e : Entry) (q : ℕ) → IsValid w.state → Fits w e → IsLiveIn (apply w e) q → NoLess (counts_of w q) (counts_of (apply w e) q)
+entry_counts w e q valid fits live =
     elim (eqb_tells q e.pid) [
       | inl is ↦ (
-          let adds = own_counts w e fits in
+          let adds = own_counts w e fits (subst (IsLiveIn (apply w e)) is.1 live) in
           let threads = adds.threads in
           let words = adds.words in
           subst (λ p. NoLess (counts_of w p) (counts_of (apply w e) p)) (sym is.1)
@@ -166,16 +169,19 @@ entry_counts w e q valid fits =
             let threads : (counts_of w q).threads ≡ 0 = ap (λ (c : Counts). c.threads) fresh in
             let words : (counts_of w q).words ≡ 0 = ap (λ (c : Counts). c.words) fresh in
             record { threads = omega (arith, threads); words = omega (arith, words) })
-        | inr unborn ↦ same_no_less (counts_of w q) (counts_of (apply w e) q) (other_counts w e q valid fits apart.1 unborn)
+        | inr unborn ↦ same_no_less (counts_of w q) (counts_of (apply w e) q) (other_counts w e q valid fits live apart.1 unborn)
       ]
     ]
 
-pub all_counts : (w : World) (history : List Entry) (q : ℕ) → IsValid w.state → FollowsFrom w history → NoLess (counts_of w q) (counts_of (apply_all w history) q)
+pub all_counts : (w : World) (history : List Entry) (q : ℕ) → IsValid w.state → FollowsFrom w history → Made w q → IsLiveIn (apply_all w history) q
+    → NoLess (counts_of w q) (counts_of (apply_all w history) q)
 unfolding FollowsFrom apply_all
-all_counts w [] q valid follows = record { threads = omega arith; words = omega arith }
-all_counts w (e ∷ history) q valid follows =
-    let here = entry_counts w e q valid follows.0 in
-    let later = all_counts (apply w e) history q (apply_valid w e follows.0 valid) follows.1 in
+all_counts w [] q valid follows made live = record { threads = omega arith; words = omega arith }
+all_counts w (e ∷ history) q valid follows made live =
+    let valid_then = apply_valid w e follows.0 valid in
+    let there = apply_made w e q follows.0 made in
+    let here = entry_counts w e q valid follows.0 (live_through (apply w e) history q valid_then follows.1 there live) in
+    let later = all_counts (apply w e) history q valid_then follows.1 there live in
     let threads = here.threads in
     let more = later.threads in
     let words = here.words in
@@ -227,14 +233,15 @@ pub record Within (counts : Counts) (turns : ℕ) : Type 0 where
 abbrev AllWithin : World → ℕ → Type 0
 AllWithin w turns = (q : ℕ) → Within (counts_of w q) turns
 
-entry_bound : (w : World) (e : Entry) (n : ℕ) → IsValid w.state → Fits w e → AllWithin w n → AllWithin (apply w e) (n + length e.turns)
-entry_bound w e n valid fits before q =
+live_bound : (w : World) (e : Entry) (n : ℕ) → IsValid w.state → Fits w e → AllWithin w n → (q : ℕ) → IsLiveIn (apply w e) q
+    → Within (counts_of (apply w e) q) (n + length e.turns)
+live_bound w e n valid fits before q live =
     let own = before e.pid in
     let counted = own.threads in
     let drawn = own.words in
     elim (eqb_tells q e.pid) [
       | inl is ↦ (
-          let adds = own_counts w e fits in
+          let adds = own_counts w e fits (subst (IsLiveIn (apply w e)) is.1 live) in
           let few = act_few w (who_of w.state e) e.turns e.act valid fits.act in
           let threads = adds.threads in
           let words = adds.words in
@@ -249,7 +256,7 @@ entry_bound w e n valid fits before q =
             let words = is.words in
             record { threads = omega (arith, threads, counted); words = omega (arith, words) })
         | inr unborn ↦ (
-            let same = other_counts w e q valid fits apart.1 unborn in
+            let same = other_counts w e q valid fits live apart.1 unborn in
             let here = before q in
             let first = here.threads in
             let second = here.words in
@@ -257,6 +264,14 @@ entry_bound w e n valid fits before q =
             let words : (counts_of (apply w e) q).words ≡ (counts_of w q).words = ap (λ (c : Counts). c.words) same in
             record { threads = omega (arith, threads, first); words = omega (arith, words, second) })
       ]
+    ]
+
+entry_bound : (w : World) (e : Entry) (n : ℕ) → IsValid w.state → Fits w e → AllWithin w n → AllWithin (apply w e) (n + length e.turns)
+entry_bound w e n valid fits before q =
+    elim (live_or_dead (get (apply w e).state.statuses q)) [
+      | inl live ↦ live_bound w e n valid fits before q live
+      | inr dead ↦ subst (λ (c : Counts). Within c (n + length e.turns)) (sym (dead_counts (apply w e) q (apply_valid w e fits valid) dead))
+          (record { threads = omega arith; words = omega arith })
     ]
 
 bound_on : (w : World) (history : List Entry) (n : ℕ) → IsValid w.state → FollowsFrom w history → AllWithin w n

@@ -173,6 +173,24 @@ child_has_thread w e q valid fits there =
       alone = runs.1;
     }
 
+-- a process that was made and lives after an entry lived before it
+lived_before : (w : World) (e : Entry) (q : ℕ) → IsValid w.state → Fits w e → Made w q → IsLiveIn (apply w e) q
+    → ((q ≡ e.pid) × (is_idle e.act ≡ false)) ⊎ IsLeft w (apply w e) e.act q → IsLiveIn w q
+lived_before w e q valid fits made live (inl mine) = subst (IsLiveIn w) (sym mine.0) (fits.live mine.1)
+lived_before w e q valid fits made live (inr (is_born there)) = absurd ((born_is_new w e q valid fits there).0 made)
+lived_before w e q valid fits made live (inr (is_ended was dead)) = was
+lived_before w e q valid fits made live (inr (stays same)) = sym same.status ∙ live
+
+pub live_before : (w : World) (e : Entry) (q : ℕ) → IsValid w.state → Fits w e → Made w q → IsLiveIn (apply w e) q → IsLiveIn w q
+live_before w e q valid fits made live = lived_before w e q valid fits made live (own_or_left w e q valid fits)
+
+pub live_through : (w : World) (rest : List Entry) (q : ℕ) → IsValid w.state → FollowsFrom w rest → Made w q → IsLiveIn (apply_all w rest) q → IsLiveIn w q
+unfolding FollowsFrom apply_all
+live_through w [] q valid follows made live = live
+live_through w (e ∷ rest) q valid follows made live =
+    live_before w e q valid follows.0 made
+    (live_through (apply w e) rest q (apply_valid w e follows.0 valid) follows.1 (apply_made w e q follows.0 made) live)
+
 left_as_it_was : (w : World) (e : Entry) (q : ℕ) → IsValid w.state → Fits w e → Made w q → IsLiveIn (apply w e) q → IsLeft w (apply w e) e.act q
     → Same (apply w e) w q
 left_as_it_was w e q valid fits made live (is_born there) = absurd ((born_is_new w e q valid fits there).0 made)

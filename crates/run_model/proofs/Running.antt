@@ -6,18 +6,18 @@
 --     thread_lives, none_while_live      the process of a thread is live in a valid state
 use Rattle.std.proofs.Common.{◌≡◌, ◌⊎◌, inl, inr, ℕ, ◌≤◌, arith, Bool, true, false, Option, Some, None, is_some, refl, sym, ap, ◌∙◌}
 use Rattle.std.specs.Option.{option_map}
-use Rattle.std.specs.Ordering.{nat_cmp}
-use Rattle.std.specs.FinMap.{empty, get, get-empty}
+use Rattle.std.specs.FinMap.{get}
 use Rattle.abi_types.specs.declared.constants.Constants.{Constants}
 use Rattle.abi_types.specs.declared.status.Status.{Status}
 use Rattle.abi_types.specs.declared.status.Status.TheVariants.{Live, Exit, Killed}
 use Rattle.abi_types.specs.declared.thread.Thread.{Thread}
 use Rattle.abi_types.specs.declared.thread.Thread.TheVariants.{Runnable, Waits}
 use Rattle.kernel_model.specs.Ends.{NoneLive, SomeLive}
-use Rattle.kernel_model.specs.State.{State, ProcessState, Threads, threads_of, thread_in, thread_of}
+use Rattle.kernel_model.specs.State.{State, ProcessState, thread_in, thread_of}
 use Rattle.kernel_model.specs.Valid.{IsValid}
 use Rattle.kernel_model.specs.Wakes.{is_ready, is_ready_as, NoneReady}
 use Rattle.kernel_model.proofs.Tests.{not_true, none_is_no}
+use Rattle.kernel_model.proofs.Valids.{dead_process, live_or_dead}
 use Rattle.maps.specs.Maps.{passes, least_key, least_key-entry, least_key-none}
 use Rattle.run_model.specs.Ends.{IsParked, HasThread, goes_on, some_goes_on, jumps_unless, jumps_left}
 use Rattle.run_model.specs.Legal.{IsRunnable}
@@ -203,25 +203,14 @@ some_lives S =
 
 -- ---- a thread's process
 
-no_thread : (t : ℕ) (thread : Thread) (o : Option ProcessState) → is_some o ≡ false → thread_in (option_map (λ (x : ProcessState). x.threads) o) t ≡ Some thread → ⊥
-no_thread t thread None isnt there = none_is_no thread there
-no_thread t thread (Some own) isnt there = not_true (sym isnt)
-
-no_thread_left : (t : ℕ) (thread : Thread) (o : Option Threads) → o ≡ Some empty → thread_in o t ≡ Some thread → ⊥
-no_thread_left t thread o none there =
-    none_is_no thread (sym (get-empty nat_cmp t) ∙ sym (ap (λ x. thread_in x t) none) ∙ there)
-
-lives_by : (S : State) (p t : ℕ) (thread : Thread) (o : Option Status) → IsValid S → get S.statuses p ≡ o → HasThread S p t thread → o ≡ Some Live
-lives_by S p t thread None valid is there = absurd (no_thread t thread (get S.processes p) (valid.nearly.owns p ∙ ap is_some is) there)
-lives_by S p t thread (Some Live) valid is there = refl
-lives_by S p t thread (Some (Exit code)) valid is there =
-    absurd (no_thread_left t thread (threads_of S p) (valid.nearly.ended p (Exit code) is (λ same. cc)).1 there)
-lives_by S p t thread (Some (Killed signal)) valid is there =
-    absurd (no_thread_left t thread (threads_of S p) (valid.nearly.ended p (Killed signal) is (λ same. cc)).1 there)
-
 -- the process of a thread is live
 pub thread_lives : (S : State) (p t : ℕ) (thread : Thread) → IsValid S → HasThread S p t thread → get S.statuses p ≡ Some Live
-thread_lives S p t thread valid there = lives_by S p t thread (get S.statuses p) valid refl there
+thread_lives S p t thread valid there =
+    elim (live_or_dead (get S.statuses p)) [
+      | inl live ↦ live
+      | inr dead ↦ absurd (none_is_no thread
+          (sym (ap (λ o. thread_in (option_map (λ (x : ProcessState). x.threads) o) t) (dead_process S p valid.nearly dead)) ∙ there))
+    ]
 
 -- a thread that isn't there while its process lives is not there
 pub none_while_live : (S : State) (p t : ℕ) → IsValid S → (get S.statuses p ≡ Some Live → thread_of S p t ≡ None) → thread_of S p t ≡ None

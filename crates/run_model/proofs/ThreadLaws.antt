@@ -10,7 +10,7 @@ use Rattle.std.proofs.lemmas.List.{append_assoc}
 use Rattle.std.specs.Option.{option_map}
 use Rattle.std.specs.Ordering.{nat_cmp}
 use Rattle.std.specs.Prelude.{if◌then◌else◌}
-use Rattle.std.specs.FinMap.{get, get-empty, insert}
+use Rattle.std.specs.FinMap.{empty, get, insert}
 use Rattle.clock_random.specs.Random.{random_bytes, words_of}
 use Rattle.abi_base.specs.declared.signal.Signal.TheVariants.{Kill, Xcpu}
 use Rattle.abi_base.specs.Registers.{Registers}
@@ -34,7 +34,6 @@ use Rattle.call_codec.specs.Bounded.{IsBounded}
 use Rattle.call_codec.specs.Put.{answered_of}
 use Rattle.call_codec.specs.Start.{thread_registers}
 use Rattle.kernel_model.specs.Families.ClockCalls.{is_real, time_of}
-use Rattle.kernel_model.specs.Families.ProcessCalls.{ended_process}
 use Rattle.kernel_model.specs.Laws.{HasSameProcess, IsKilled}
 use Rattle.kernel_model.specs.State.{ProcessState, State, counts_in, thread_in, thread_of}
 use Rattle.kernel_model.specs.Step.{IsStep}
@@ -55,7 +54,7 @@ use Rattle.run_model.proofs.Calls.{ended_by}
 use Rattle.run_model.proofs.Counts.{all_bound, all_counts, call_counts, counts_of, entry_counts, start_words, NoLess, Within}
 use Rattle.run_model.proofs.Ends.{apply_made, apply_process, killed_is_not_live}
 use Rattle.run_model.proofs.Histories.{apply_is, first_guest_is, legal_front, legal_next, legal_rest, world_constants, world_rest}
-use Rattle.run_model.proofs.Own.{born_is_new, idle_leaves, made_later, other_process, same_threads}
+use Rattle.run_model.proofs.Own.{born_is_new, idle_leaves, live_before, live_through, made_later, other_process, same_threads}
 use Rattle.run_model.proofs.Potentials.{turns_are_bounded}
 use Rattle.run_model.proofs.Registers.{call_guest}
 use Rattle.run_model.proofs.Running.{none_while_live, thread_lives}
@@ -234,13 +233,29 @@ between launch front e middle f rest legal =
       second = legal_next launch (front ++ e ∷ middle) f rest other;
     }
 
+-- a process that did the first, and that is to do the second, lives between them
+lives_between : (launch : Launch) (front : List Entry) (e : Entry) (middle : List Entry) (f : Entry) (p : ℕ) → IsValid (world launch front).state
+    → Between launch front e middle f → Made (apply (world launch front) e) p → IsLiveIn (world launch (front ++ e ∷ middle)) p
+    → IsLiveIn (apply (world launch front) e) p
+lives_between launch front e middle f p valid b made live =
+    live_through (apply (world launch front) e) middle p (apply_valid (world launch front) e b.first valid) b.follows made
+    (subst (λ (v : World). IsLiveIn v p) b.is live)
+
 -- the counts between them
 counts_between : (launch : Launch) (front : List Entry) (e : Entry) (middle : List Entry) (f : Entry) (p : ℕ) → IsValid (world launch front).state
-    → Between launch front e middle f
+    → Between launch front e middle f → Made (apply (world launch front) e) p → IsLiveIn (world launch (front ++ e ∷ middle)) p
     → NoLess (counts_of (apply (world launch front) e) p) (counts_of (world launch (front ++ e ∷ middle)) p)
-counts_between launch front e middle f p valid b =
+counts_between launch front e middle f p valid b made live =
     subst (λ (v : World). NoLess (counts_of (apply (world launch front) e) p) (counts_of v p)) (sym b.is)
-    (all_counts (apply (world launch front) e) middle p (apply_valid (world launch front) e b.first valid) b.follows)
+    (all_counts (apply (world launch front) e) middle p (apply_valid (world launch front) e b.first valid) b.follows made
+    (subst (λ (v : World). IsLiveIn v p) b.is live))
+
+-- who does an entry lives before it, and is made after it
+doer_lives : (w : World) (e : Entry) (p : ℕ) (call : Call) (reply : Reply) → Fits w e → Succeeds e p call reply → IsLiveIn w p
+doer_lives w e p call reply fits succeeds = subst (IsLiveIn w) succeeds.process (fits.live (ap is_idle succeeds.act))
+
+doer_made : (w : World) (e : Entry) (p : ℕ) (call : Call) (reply : Reply) → Fits w e → Succeeds e p call reply → Made (apply w e) p
+doer_made w e p call reply fits succeeds = apply_made w e p fits (ap is_some (doer_lives w e p call reply fits succeeds))
 
 -- ---- numbers of threads
 
@@ -259,28 +274,26 @@ thread_numbers_go_up launch front e middle f rest p t u first second begins lega
     let first_is : t ≡ (counts_of w p).threads + 1 = number_of w e p t first made.0 b.first made.1 made.2 in
     let ends : u ≡ (counts_of (world launch (front ++ e ∷ middle)) p).threads + 1 =
     number_of (world launch (front ++ e ∷ middle)) f p u second other.0 b.second other.1 other.2 in
-    let counted = (call_counts w e (ThreadCreate first) (answer.Reply made.0) b.first made.1.act).0
+    let there = doer_made w e p (ThreadCreate first) made.0 b.first made.1 in
+    let live = doer_lives (world launch (front ++ e ∷ middle)) f p (ThreadCreate second) other.0 b.second other.1 in
+    let on = subst (IsLiveIn (apply w e)) (sym made.1.process) (lives_between launch front e middle f p valid b there live) in
+    let counted = (call_counts w e (ThreadCreate first) (answer.Reply made.0) b.first on made.1.act).0
     ∙ ap (λ x. (counts_of w e.pid).threads + (if x then 1 else 0)) (ap is_success made.1.done) in
     let one : (counts_of (apply w e) p).threads ≡ (counts_of w p).threads + 1 =
     subst (λ q. (counts_of (apply w e) q).threads ≡ (counts_of w q).threads + 1) made.1.process counted in
-    let more : (counts_of (apply w e) p).threads ≤ (counts_of (world launch (front ++ e ∷ middle)) p).threads = (counts_between launch front e middle f p valid b).threads in
+    let more : (counts_of (apply w e) p).threads ≤ (counts_of (world launch (front ++ e ∷ middle)) p).threads = (counts_between launch front e middle f p valid b there live).threads in
     omega (arith, first_is, ends, one, more)
 
--- a number that was counted, of a thread that isn't there
+-- a number, of a thread that isn't there, that was counted if the process lives
 record IsSpent (w : World) (p t : ℕ) : Type 0 where
-  counted : t ≤ (counts_of w p).threads
+  counted : IsLiveIn w p → t ≤ (counts_of w p).threads
   gone : thread_of w.state p t ≡ None
   made : Made w p
-
-killed_thread : (o : Option ProcessState) (t : ℕ)
-    → thread_in (option_map (λ (own : ProcessState). own.threads) (option_map (λ (own : ProcessState). ended_process (Some own)) o)) t ≡ None
-killed_thread None t = refl
-killed_thread (Some own) t = get-empty nat_cmp t
 
 other_gone : (S T : State) (q t : ℕ) → HasSameProcess T S q ⊎ IsKilled S T q → thread_of S q t ≡ None → thread_of T q t ≡ None
 other_gone S T q t (inl same) gone = ap (λ o. thread_in (option_map (λ (own : ProcessState). own.threads) o) t) same.1 ∙ gone
 other_gone S T q t (inr killed) gone =
-    ap (λ o. thread_in (option_map (λ (own : ProcessState). own.threads) o) t) killed.0.1 ∙ killed_thread (get S.processes q) t
+    ap (λ o. thread_in (option_map (λ (own : ProcessState). own.threads) o) t) killed.0.1
 
 some_or_none : (o : Option Thread) → IsSome o ⊎ (o ≡ None)
 some_or_none None = inr refl
@@ -318,17 +331,23 @@ entry_gone w e p t valid fits spent =
     elim (eqb_tells p e.pid) [
       | inl is ↦ subst (λ q. IsSpent w q t → thread_of (apply w e).state q t ≡ None) (sym is.1)
           (λ own. none_while_live (apply w e).state e.pid t (apply_valid w e fits valid)
-          (subst (λ (v : World). get v.state.statuses e.pid ≡ Some Live → thread_of v.state e.pid t ≡ None) (sym (apply_is w e))
-          (act_gone (turned w e.pid e.turns) (who_of w.state e) (guest_of w e.pid) e.turns e.act t fits.act own.counted own.gone))) spent
+          (λ live. subst (λ (v : World). get v.state.statuses e.pid ≡ Some Live → thread_of v.state e.pid t ≡ None) (sym (apply_is w e))
+          (act_gone (turned w e.pid e.turns) (who_of w.state e) (guest_of w e.pid) e.turns e.act t fits.act
+          (own.counted (live_before w e e.pid valid fits own.made live)) own.gone) live)) spent
       | inr apart ↦ other_gone w.state (apply w e).state p t
           (apply_process w e p valid fits apart.1 (λ there. (born_is_new w e p valid fits there).0 spent.made)) spent.gone
     ]
 
 entry_spent : (w : World) (e : Entry) (p t : ℕ) → IsValid w.state → Fits w e → IsSpent w p t → IsSpent (apply w e) p t
 entry_spent w e p t valid fits spent =
-    let counted = spent.counted in
-    let more = (entry_counts w e p valid fits).threads in
-    record { counted = omega (arith, counted, more); gone = entry_gone w e p t valid fits spent; made = apply_made w e p fits spent.made }
+    record {
+      counted = λ live. (
+          let counted = spent.counted (live_before w e p valid fits spent.made live) in
+          let more = (entry_counts w e p valid fits live).threads in
+          omega (arith, counted, more));
+      gone = entry_gone w e p t valid fits spent;
+      made = apply_made w e p fits spent.made;
+    }
 
 all_spent : (w : World) (history : List Entry) (p t : ℕ) → IsValid w.state → FollowsFrom w history → IsSpent w p t → IsSpent (apply_all w history) p t
 unfolding FollowsFrom apply_all
@@ -350,12 +369,13 @@ gone_stays_gone launch front middle rest p t begins legal there gone =
     let early : Legal launch (front ++ middle) = legal_front launch (front ++ middle) rest other in
     let valid = world_is_valid launch front begins (legal_front launch front middle early) in
     let first : t ≤ (counts_of w p).threads = valid.nearly.numbered p t there in
-    let more : (counts_of w p).threads ≤ (counts_of (world launch (front ++ middle)) p).threads =
-    subst (λ (v : World). (counts_of w p).threads ≤ (counts_of v p).threads) (sym (world_rest launch front middle))
-    (all_counts w middle p valid (legal_rest launch front middle early)).threads in
-    let made = made_later launch front middle p early (thread_made w.state p t valid there) in
+    let was = thread_made w.state p t valid there in
+    let more : IsLiveIn (world launch (front ++ middle)) p → (counts_of w p).threads ≤ (counts_of (world launch (front ++ middle)) p).threads =
+    subst (λ (v : World). IsLiveIn v p → (counts_of w p).threads ≤ (counts_of v p).threads) (sym (world_rest launch front middle))
+    (λ live. (all_counts w middle p valid (legal_rest launch front middle early) was live).threads) in
+    let made = made_later launch front middle p early was in
     let spent = all_spent (world launch (front ++ middle)) rest p t (world_is_valid launch (front ++ middle) begins early)
-    (legal_rest launch (front ++ middle) rest other) (record { counted = omega (arith, first, more); gone = gone; made = made }) in
+    (legal_rest launch (front ++ middle) rest other) (record { counted = λ live. (let grown = more live in omega (arith, first, grown)); gone = gone; made = made }) in
     subst (λ (v : World). thread_of v.state p t ≡ None)
     (sym (world_rest launch (front ++ middle) rest) ∙ ap (world launch) (append_assoc front middle rest)) spent.gone
 
@@ -368,7 +388,7 @@ others_keep_threads w e q valid fits other unborn =
         | inl same ↦ inl (λ t. ap (λ o. thread_in (option_map (λ (own : ProcessState). own.threads) o) t) same.1)
         | inr killed ↦ inr (
           killed.1.1,
-          λ t. ap (λ o. thread_in (option_map (λ (own : ProcessState). own.threads) o) t) killed.0.1 ∙ killed_thread (get w.state.processes q) t,
+          λ t. ap (λ o. thread_in (option_map (λ (own : ProcessState). own.threads) o) t) killed.0.1,
         )
       ]
     ] refl
@@ -388,24 +408,31 @@ draws_are_apart launch front e middle f rest p length size reply other begins le
     let b = between launch front e middle f rest legal in
     let w = world launch front in
     let valid = world_is_valid launch front begins (legal_front launch front (e ∷ (middle ++ f ∷ rest)) legal) in
-    let counted = (call_counts w e (RandomGet length) (answer.Reply reply) b.first draws.act).1
+    let there = doer_made w e p (RandomGet length) reply b.first draws in
+    let live = doer_lives (world launch (front ++ e ∷ middle)) f p (RandomGet size) other b.second later in
+    let on = subst (IsLiveIn (apply w e)) (sym draws.process) (lives_between launch front e middle f p valid b there live) in
+    let counted = (call_counts w e (RandomGet length) (answer.Reply reply) b.first on draws.act).1
     ∙ ap (λ x. (counts_of w e.pid).words + (if x then words_of length else 0)) (ap is_success draws.done) in
     let moved : (counts_of (apply w e) p).words ≡ (counts_of w p).words + words_of length =
     subst (λ q. (counts_of (apply w e) q).words ≡ (counts_of w q).words + words_of length) draws.process counted in
-    let more : (counts_of (apply w e) p).words ≤ (counts_of (world launch (front ++ e ∷ middle)) p).words = (counts_between launch front e middle f p valid b).words in
+    let more : (counts_of (apply w e) p).words ≤ (counts_of (world launch (front ++ e ∷ middle)) p).words = (counts_between launch front e middle f p valid b there live).words in
     subst (λ n. n ≤ place_of (world launch (front ++ e ∷ middle)) p) moved more
 
-first_words : (launch : Launch) (history : List Entry) → MayBegin launch.tree launch.grants → Legal launch history
+first_made : (launch : Launch) → Made (start_world launch) 0
+unfolding start_world
+first_made launch = ap is_some (get-insert-same (empty {R = nat_cmp}) 0 Live)
+
+first_words : (launch : Launch) (history : List Entry) → MayBegin launch.tree launch.grants → Legal launch history → IsLiveIn (world launch history) 0
     → (counts_of (start_world launch) 0).words ≤ (counts_of (world launch history) 0).words
 unfolding Legal world
-first_words launch history begins legal = (all_counts (start_world launch) history 0 (first_valid launch begins) legal).words
+first_words launch history begins legal live = (all_counts (start_world launch) history 0 (first_valid launch begins) legal (first_made launch) live).words
 
 pub canary_is_apart : CanaryIsApart
 canary_is_apart = record {
   memory = λ launch. ap (λ (g : Guest). g.memory) (first_guest_is launch);
-  behind = λ launch history begins legal. (
+  behind = λ launch history begins legal live. (
       let start : (counts_of (start_world launch) 0).words ≡ 16 = start_words launch in
-      let more = first_words launch history begins legal in
+      let more = first_words launch history begins legal live in
       let all : words_of 64 ≡ 16 = refl in
       omega (arith, start, more, all));
 }

@@ -27,7 +27,6 @@ use Rattle.abi_types.specs.declared.wake.WakeIn.{WakeIn}
 use Rattle.abi_types.specs.declared.wake.WakeIn.TheVariants as wake
 use Rattle.abi_types.specs.declared.who.Who.{Who}
 use Rattle.kernel_model.specs.Families.ForkCalls.{child_process}
-use Rattle.kernel_model.specs.Families.ProcessCalls.{ended_process}
 use Rattle.kernel_model.specs.Families.Locks.{awaits_signal, first_awaited, is_condition, with_word}
 use Rattle.kernel_model.specs.Laws.{HasSameProcess, IsKilled}
 use Rattle.kernel_model.specs.Outcome.{is_parked}
@@ -137,13 +136,9 @@ process_around S T p t others =
 abbrev pub all_wakes : State → ℕ
 all_wakes S = total all_wakes_left S.processes
 
-ended_wakes : (o : Option ProcessState) → weight all_wakes_left (option_map (λ (own : ProcessState). ended_process (Some own)) o) ≡ 0
-ended_wakes None = refl
-ended_wakes (Some own) = total-empty wakes_left
-
 other_wakes : (S T : State) (q : ℕ) → HasSameProcess T S q ⊎ IsKilled S T q → process_wakes T q ≤ process_wakes S q
 other_wakes S T q (inl same) = let is = ap (weight all_wakes_left) same.1 in omega (arith, is)
-other_wakes S T q (inr killed) = let none = ap (weight all_wakes_left) killed.0.1 ∙ ended_wakes (get S.processes q) in omega (arith, none)
+other_wakes S T q (inr killed) = let none = ap (weight all_wakes_left) killed.0.1 in omega (arith, none)
 
 pub wakes_around : (S T : State) (p t : ℕ) → ((q : ℕ) → q ≢ p → process_wakes T q ≤ process_wakes S q)
     → ((u : ℕ) → u ≢ t → thread_wakes T p u ≤ thread_wakes S p u) → all_wakes T + thread_wakes S p t ≤ all_wakes S + thread_wakes T p t
@@ -307,7 +302,7 @@ end_wakes S p status dead made valid =
     let ends = end_ends_only S p status dead in
     let T = end_state S p status in
     let gone : (u : ℕ) → thread_of T p u ≡ None =
-    λ u. ended_thread T p u (Some status) (end_valid S p status made valid) ends.stands (λ e. dead (same_some status Live e)) in
+    λ u. ended_thread T p u (end_valid S p status made dead valid) (λ live. dead (same_some status Live (sym ends.stands ∙ live))) in
     let around = wakes_around S T p 0 (λ q apart. other_wakes S T q (ends.others q apart)) (λ u _. less_or_same (thread_of T p u) (thread_of S p u) (inl (inl (gone u)))) in
     let none : thread_wakes T p 0 ≡ 0 = ap (weight wakes_left) (gone 0) in
     omega (arith, around, none)

@@ -38,8 +38,8 @@ acted_valid w who guest ts (act.Call call given) live fits valid =
     step_keeps_valid w.constants w.state who call given (called_state w.constants w.state who call given) fits.1 valid
 acted_valid w who guest ts (act.Wake call given answered) live fits valid =
     wake_keeps_valid w.constants w.state who call given answered (woken_state w.constants w.state who call given answered) fits.1.1 valid
-acted_valid w who guest ts (act.Trap signal) live fits valid = end_valid w.state who.pid (Killed signal) (ap is_some (live refl)) valid
-acted_valid w who guest ts act.Expire live fits valid = end_valid w.state who.pid (Killed Xcpu) (ap is_some (live refl)) valid
+acted_valid w who guest ts (act.Trap signal) live fits valid = end_valid w.state who.pid (Killed signal) (ap is_some (live refl)) (killed_is_not_live signal) valid
+acted_valid w who guest ts act.Expire live fits valid = end_valid w.state who.pid (Killed Xcpu) (ap is_some (live refl)) (killed_is_not_live Xcpu) valid
 acted_valid w who guest ts act.Idle live fits valid = idle_valid w.state valid
 
 pub apply_valid : (w : World) (e : Entry) → Fits w e → IsValid w.state → IsValid (apply w e).state

@@ -100,7 +100,7 @@ ProgramBegins =
 
 -- ---- random bytes
 
--- how many random words a process has drawn: the place in its stream that it has come to
+-- how many random words a process that lives has drawn: the place in its stream that it has come to
 abbrev pub place_of : World → ℕ → ℕ
 place_of w p = (counts_in (get w.state.processes p)).words
 
@@ -121,11 +121,13 @@ DrawsAreApart =
     → MayBegin launch.tree launch.grants → Legal launch (front ++ e ∷ (middle ++ f ∷ rest)) → Draws e p length reply → Draws f p size other
     → place_of (world launch front) p + words_of length ≤ place_of (world launch (front ++ e ∷ middle)) p
 
--- Process 0 begins with a canary, which is drawn first: it is the bytes from place 0 on, and each later draw begins behind it.
+-- Process 0 begins with a canary, which is drawn first: it is the bytes from place 0 on, and while the process lives each later draw begins
+-- behind it.
 pub record CanaryIsApart : Type 0 where
   pub memory : (launch : Launch)
       → (guest_of (start_world launch) 0).memory ≡ start_pages launch.elf launch.argdata (random_bytes launch.constants.key 0 0 64) 0 1
-  pub behind : (launch : Launch) (history : List Entry) → MayBegin launch.tree launch.grants → Legal launch history → words_of 64 ≤ place_of (world launch history) 0
+  pub behind : (launch : Launch) (history : List Entry) → MayBegin launch.tree launch.grants → Legal launch history → IsLiveIn (world launch history) 0
+      → words_of 64 ≤ place_of (world launch history) 0
 
 -- ---- bounds
 

@@ -1,5 +1,6 @@
 //! The entries that make the history of a run.
-use abi_types::{Answer, Call, Pid, Signal, Tid, TidList, WakeIn};
+use crate::turn_list::TurnList;
+use abi_types::{Answer, Call, Pid, Signal, Tid, WakeIn};
 
 /// What an entry of a history does.
 #[derive(Drop)]
@@ -31,6 +32,6 @@ pub struct Entry {
     pub moment: u64,
     pub pid: Pid,
     pub tid: Tid,
-    pub turns: TidList,
+    pub turns: TurnList,
     pub act: Act,
 }

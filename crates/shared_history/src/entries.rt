@@ -2,8 +2,8 @@
 ghost use Rattle.std.specs.Prelude.{◌≡◌};
 ghost use Rattle.shared_history.specs.Entries.{act_of, entry_of, idled};
 
-use abi_types::{Answer, Call, Pid, Tid, TidList, WakeIn};
-use run_types::{Act, Entry};
+use abi_types::{Answer, Call, Pid, Tid, WakeIn};
+use run_types::{Act, Entry, TurnList};
 use std::alloc::Global;
 
 /// What an entry has beside its act: the moment after it in nanoseconds, the process and thread that it is of, and the threads of the
@@ -13,7 +13,7 @@ pub struct EntryHead {
     pub moment: u64,
     pub pid: Pid,
     pub tid: Tid,
-    pub turns: TidList,
+    pub turns: TurnList,
 }
 
 impl EntryHead {
@@ -54,7 +54,7 @@ pub fn idle_entry(alloc: Global, moment: u64) -> Entry
         moment,
         pid: Pid(0),
         tid: Tid(0),
-        turns: TidList::new(alloc),
+        turns: TurnList::new(alloc),
         act: Act::Idle,
     }
 }

@@ -1,6 +1,5 @@
 //! What the workers of a run share under one lock: the tickets, and who has one or waits for one.
 use crate::asking::Asking;
-use crate::outside::Outside;
 use crate::queue::{Queue, Ticket};
 use abi_base::{Pid, Tid};
 use std::alloc::{AllocError, Global};
@@ -48,6 +47,72 @@ pub enum Passed {
     Busy,
     /// Nothing can happen any more, or memory ran out.
     Stopped,
+}
+
+// The ticket of this thread, and whether it is to be handed out again even if the thread waits when the ticket is back.
+#[derive(Clone, Copy, Drop)]
+struct Lent {
+    pid: Pid,
+    tid: Tid,
+    again: bool,
+}
+
+// The tickets that workers have, of which no two are of one process. There is room for a ticket of each worker from the start, so that none takes
+// memory.
+#[derive(Drop)]
+struct Outside {
+    busy: Vec<Pid, Global>,
+    lent: Vec<Lent, Global>,
+}
+
+impl Outside {
+    // No ticket, with room for one of each of this many workers.
+    fn new(alloc: Global, workers: u32) -> Result<Outside, AllocError> {
+        let busy = Vec::with_capacity(alloc, workers as usize)?;
+        let lent = Vec::with_capacity(alloc, workers as usize)?;
+        Ok(Outside { busy, lent })
+    }
+
+    // The processes of these tickets.
+    fn busy(&self) -> &[Pid] {
+        self.busy.as_slice()
+    }
+
+    // Whether one of them is of this process.
+    fn has(&self, pid: Pid) -> bool {
+        self.busy.iter().any(|other| other.0 == pid.0)
+    }
+
+    // Enters the ticket of a thread. `Err` where there is no room for it and memory ran out.
+    fn enter(&mut self, pid: Pid, tid: Tid) -> Result<(), AllocError> {
+        self.busy.push(pid)?;
+        self.lent.push(Lent {
+            pid,
+            tid,
+            again: false,
+        })?;
+        Ok(())
+    }
+
+    // Takes the ticket of this process off. Whether it is to be handed out again.
+    fn leave(&mut self, pid: Pid) -> bool {
+        let again = self
+            .lent
+            .iter()
+            .any(|lent| lent.pid.0 == pid.0 && lent.again);
+        self.busy.retain(|other| other.0 != pid.0);
+        self.lent.retain(|lent| lent.pid.0 != pid.0);
+        again
+    }
+
+    // Notes that the ticket of a thread is to be handed out again, if it is one of these.
+    fn mark(&mut self, pid: Pid, tid: Tid) {
+        for lent in self.lent.iter_mut() {
+            if lent.pid.0 == pid.0 && lent.tid.0 == tid.0 {
+                lent.again = true;
+            }
+        }
+    }
 }
 
 /// The tickets of a run, those that workers have, whether the kernel is to be asked for threads that are ready, how many workers are at work,
@@ -296,12 +361,12 @@ impl<T: SharedTicket> Board<T> {
         self.waiting = self.waiting.saturating_sub(1);
     }
 
-    /// Whether a worker waits that need wait no more, and so is to be woken. It is asked after each `take_back`, `take_passed`, `take_asked` and
-    /// `hand_out`, under the lock under which these were. While a worker asks the kernel none is woken: it comes back at once.
     // No worker waits in vain. Tickets become ready, processes free, workers fewer and the kernel is to be asked by what is taken and told, and
     // `hand_out` only makes a process busy, or has the kernel asked, or stops all. Who comes with one of these takes the first task itself. If
     // another one is left then, or all are to leave, one that waits is woken, takes the next, and is asked the same. If somebody else takes that
     // task before, it waits on, and that one is asked. Who asks the kernel comes with its answer, and wakes then whom nobody woke meanwhile.
+    /// Whether a worker waits that need wait no more, and so is to be woken. It is asked after each `take_back`, `take_passed`, `take_asked` and
+    /// `hand_out`, under the lock under which these were. While a worker asks the kernel none is woken: it comes back at once.
     pub fn rings(&self) -> bool {
         self.waiting > 0 && !self.asking.is_under_way() && !self.waits()
     }

@@ -7,5 +7,4 @@ pub use queue::{Queue, Ticket};
 
 mod asking;
 mod board;
-mod outside;
 mod queue;

@@ -2,18 +2,14 @@
 --     least_none, least_down, least_more, least_fewer, least_left      the least one after a change
 --     stood_again, stood_above, left_other, left_first      the set after a change
 --     others_stay      others are left where the least one goes
---     next_first, next_rest      the next thread
 use Rattle.std.proofs.Common.{◌≡◌, ◌≢◌, ◌↔◌, ℕ, ◌<◌, ◌≤◌, true, false, inl, inr, Option, Some, None, IsSome, is_some, refl, sym, ap, subst, ◌∙◌, arith}
 use Rattle.std.specs.Option.{IfSome, IsNone}
 use Rattle.std.specs.Ordering.{nat_cmp}
 use Rattle.std.specs.FinMap.{get, empty, insert, remove, contains_key, get-empty}
-use Rattle.std.proofs.lemmas.Bool.{ltb-true}
 use Rattle.std.proofs.lemmas.Bool.Decides.{eqb_tells}
 use Rattle.maps.specs.Halves.{not_true}
 use Rattle.maps.specs.Maps.{get-insert-same, get-insert-other, get-remove-same, get-remove-other, insert-again, insert-insert, remove-inserted, remove-insert_other, put_back}
-use Rattle.wait_set.specs.Next.{is_after, IsNext}
 use Rattle.wait_set.specs.Queued.{QueueSet, IsLeast}
-use Rattle.wait_set.proofs.Walking.{next_on}
 
 none_in : (rest : QueueSet) (t : ℕ) → rest ≡ empty → contains_key rest t ≡ false
 none_in rest t none = ap (λ (q : QueueSet). contains_key q t) none ∙ ap is_some (get-empty nat_cmp t)
@@ -95,27 +91,6 @@ others_stay first thread rest least is more = λ none. more (gone_first first th
 
 pub only_one : (first thread : ℕ) (rest : QueueSet) → IsLeast first rest → thread ≡ first → rest ≢ empty → remove (insert rest first tt) thread ≢ empty
 only_one first thread rest least is more = λ none. more (sym (gone_first first thread rest least is) ∙ none)
-
--- ---- the next thread
-
-pub next_first : (first : ℕ) (rest : QueueSet) (after : Option ℕ) → IsLeast first rest → is_after after first ≡ true
-    → IsNext (λ t. contains_key (insert rest first tt) t) after (Some first)
-next_first first rest after least later = (
-  later,
-  ap is_some (get-insert-same rest first tt),
-  λ t _ at. elim (eqb_tells t first) [
-    | inl same ↦ let is = same.1 in omega arith
-    | inr other ↦ let more = least t (other_in rest first t other.1 at) in omega arith
-  ],
-)
-
-pub next_rest : (first key : ℕ) (rest : QueueSet) (r : Option ℕ) → first ≤ key → IsNext (λ t. contains_key rest t) (Some key) r
-    → IsNext (λ t. contains_key (insert rest first tt) t) (Some key) r
-next_rest first key rest r low =
-    next_on (λ t. contains_key rest t) (λ t. contains_key (insert rest first tt) t) (Some key) r (λ t later.
-    let more = ltb-true key t later in
-    let other : t ≢ first = omega arith in
-    sym (ap is_some (get-insert-other rest first tt t other)))
 
 -- ---- what an answer holds
 

@@ -9,3 +9,4 @@ pub mod Spotting
 pub mod Thick
 pub mod Tying
 pub mod Walking
+pub mod Walks

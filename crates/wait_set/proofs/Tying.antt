@@ -1,5 +1,5 @@
 -- What ties the sets and the queues to the threads' entries, as one of these changes.
-use Rattle.std.proofs.Common.{◌≡◌, ℕ, ◌+◌, ◌-◌, ◌<◌, ◌≤◌, Bool, true, false, cond, ◌&&◌, ◌||◌, not, nat_lt, inl, inr, List, [], length, Option, Some, None, IsSome, is_some, refl, sym, ap, subst, ◌∙◌, arith}
+use Rattle.std.proofs.Common.{◌≡◌, ℕ, ◌+◌, ◌-◌, ◌<◌, ◌≤◌, Bool, true, false, cond, ◌&&◌, not, nat_lt, inl, inr, List, [], length, Option, Some, None, IsSome, is_some, refl, sym, ap, subst, ◌∙◌, arith}
 use Rattle.std.specs.Bool.{nat_eq}
 use mir.Val.{bool_byte}
 use Rattle.std.specs.Option.{option_map}
@@ -19,7 +19,7 @@ use Rattle.wait_set.specs.Numbers.{Numbers, IsAscending}
 use Rattle.wait_set.specs.Queued.{QueueMap, has_at, stands_in, NoneEmpty}
 use Rattle.wait_set.specs.Spots.{listed}
 use Rattle.wait_set.specs.SpotQueues.{spot_has}
-use Rattle.wait_set.specs.Waits.{WaitMap, flag, lists, stands, is_ready, is_everywhere, is_left, is_running, counted, is_awaited}
+use Rattle.wait_set.specs.Waits.{WaitMap, flag, lists, is_ready, is_everywhere, is_left, is_running, counted, is_awaited}
 use Rattle.wait_set.specs.Tied.{IsFlagged, IsTied}
 use Rattle.wait_set.proofs.Ascending.{length_less}
 use Rattle.wait_set.proofs.Queueing.{Queue}
@@ -183,15 +183,6 @@ flagged_none p w set none no_list up =
       ascending = up;
       room = let size = ap (λ (m : WaitMap). len m) none ∙ len-empty nat_cmp Waiting in omega arith;
     }
-
--- ---- what stands at a spot
-
-either : (x : Spot) (o : Option Waiting) → (flag (lists x) o || flag is_everywhere o) ≡ flag (stands x) o
-either x None = refl
-either x (Some s) = refl
-
-pub stands_either : (x : Spot) (w : WaitMap) (t : ℕ) (b : Bool) → b ≡ flag is_everywhere (get w t) → (flag (lists x) (get w t) || b) ≡ flag (stands x) (get w t)
-stands_either x w t b is = ap (λ a. flag (lists x) (get w t) || a) is ∙ either x (get w t)
 
 -- ---- entries
 

@@ -6,16 +6,17 @@
 
 mod block;
 mod blocks;
+mod leaving;
 mod number_set;
 mod packing;
 mod queue;
 mod queues;
 mod ranges;
-mod settling;
 mod spot;
 mod spot_list;
 mod spot_queues;
 mod steps;
+mod thread_set;
 mod wait_set;
 mod waiting;
 
@@ -26,5 +27,6 @@ pub use spot::Spot;
 pub use spot_list::SpotList;
 pub use spot_queues::SpotQueues;
 pub use steps::{Parts, Steps};
+pub use thread_set::ThreadSet;
 pub use wait_set::WaitSet;
 pub use waiting::Waiting;

@@ -1,5 +1,5 @@
 //! Where a number stands in blocks that are packed: none is empty, and two neighbours have at least 33 numbers.
-ghost use Rattle.std.specs.Prelude.{◌≡◌, ◌≤◌, ◌<◌, ◌+◌, ◌^◌, ◌++◌, ℕ, length, take, drop};
+ghost use Rattle.std.specs.Prelude.{◌≡◌, ◌⊎◌, ◌≤◌, ◌<◌, ◌+◌, ◌^◌, ◌++◌, ℕ, length, take, drop, get_or};
 ghost use Rattle.std.specs.List.{concat, remove};
 ghost use Rattle.wait_set.specs.Numbers.{IsPacked, IsPlace, IsJoined, HasSome, block};
 
@@ -17,8 +17,7 @@ pub fn find(blocks: &Blocks, number: u64) -> usize
     ensures place { IsPlace blocks.now.used number result }
     ensures bound { result + 1 < 2 ^ 64 }
 {
-    let mut low = 0;
-    let mut high = blocks.len();
+    let (mut low, mut high) = ends(blocks, number);
     while high - low > 1 {
         let middle = low + (high - low) / 2;
         if blocks.at(middle).at(0) <= number {
@@ -70,6 +69,27 @@ pub fn take_at(blocks: &mut Blocks, index: usize, place: usize)
     join_few(blocks, index);
     if index > 0 {
         join_few(blocks, index - 1);
+    }
+}
+
+// Between which blocks the number stands: from the first one on, and before the second. A walk over all puts numbers in at the last
+// block, and takes them out at the first one: these are tried before a search.
+fn ends(blocks: &Blocks, number: u64) -> (usize, usize)
+    requires packed { IsPacked blocks.now.used }
+    requires some { 0 < length blocks.now.used }
+    ensures order { result.0 < result.1 }
+    ensures bound { result.1 ≤ length blocks.now.used }
+    ensures below { (result.0 ≡ 0) ⊎ (get_or (block blocks.now.used result.0) 0 0 ≤ number) }
+    ensures above { (result.1 ≡ length blocks.now.used) ⊎ (number < get_or (block blocks.now.used result.1) 0 0) }
+{
+    let last = blocks.len() - 1;
+    if last == 0 || blocks.at(last).at(0) <= number {
+        return (last, last + 1);
+    }
+    if number < blocks.at(1).at(0) {
+        (0, 1)
+    } else {
+        (0, last)
     }
 }
 

@@ -1,8 +1,13 @@
 //! The threads that stand at one number.
-ghost use Rattle.std.specs.Prelude.{◌≡◌, ◌≢◌, true, false, OnOk, OnErr};
+ghost use Rattle.std.specs.Prelude.{◌≡◌, ◌≢◌, ℕ, true, false, cond, option_map, IsSome, OnOk, OnErr};
 ghost use Rattle.std.specs.FinMap as map;
-ghost use Rattle.wait_set.specs.Next.{IsNext};
+ghost use Rattle.wait_set.specs.Tied.{IsFlagged};
+ghost use Rattle.wait_set.specs.Waits.{is_left, touched};
 
+use crate::leaving::leave;
+use crate::number_set::NumberSet;
+use crate::thread_set::ThreadSet;
+use crate::waiting::Waiting;
 use maps::NumMap;
 use std::alloc::{AllocError, Global};
 use std::marker::Model;
@@ -12,7 +17,7 @@ use std::marker::Model;
 pub struct Queue {
     // The least thread, and the others.
     first: u64,
-    rest: NumMap<()>,
+    rest: ThreadSet,
 }
 
 impl Model for Queue {
@@ -37,7 +42,7 @@ impl Queue {
     {
         Queue {
             first: thread,
-            rest: NumMap::new(alloc),
+            rest: ThreadSet::new(alloc),
         }
     }
 
@@ -47,14 +52,14 @@ impl Queue {
         ensures err { OnErr result (self.new ≡ self.old) }
     {
         if thread < self.first {
-            self.rest.insert(self.first, ())?;
+            self.rest.insert(self.first)?;
             self.first = thread;
             return Ok(());
         }
         if thread == self.first {
             return Ok(());
         }
-        self.rest.insert(thread, ())?;
+        self.rest.insert(thread)?;
         Ok(())
     }
 
@@ -82,16 +87,14 @@ impl Queue {
         self.first = next;
     }
 
-    /// The next thread after `after`.
-    pub fn next(&self, after: Option<u64>) -> Option<u64>
-        ensures { IsNext (λ t. map.contains_key self.now t) after result }
+    /// Each thread, which is in `threads`, is left to be tested.
+    pub(crate) fn leave_each(&self, threads: &mut NumMap<Waiting>, left: &mut NumberSet)
+        requires there { (t : ℕ) → map.contains_key self.now t ≡ true → IsSome (map.get threads.old t) }
+        requires set { IsFlagged is_left threads.old left.old }
+        ensures marks { (t : ℕ) → map.get threads.new t ≡ cond (map.contains_key self.now t) (option_map touched (map.get threads.old t)) (map.get threads.old t) }
+        ensures set { IsFlagged is_left threads.new left.new }
     {
-        let Some(key) = after else {
-            return Some(self.first);
-        };
-        if key < self.first {
-            return Some(self.first);
-        }
-        self.rest.first_after(key)
+        leave(threads, left, self.first);
+        self.rest.leave_each(threads, left);
     }
 }

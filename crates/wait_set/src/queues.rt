@@ -1,18 +1,22 @@
 //! The threads that stand at each number.
-ghost use Rattle.std.specs.Prelude.{◌≡◌, ◌+◌, ◌&&◌, ◌||◌, ℕ, Bool, not, nat_eq, OnOk, OnErr};
+ghost use Rattle.std.specs.Prelude.{◌≡◌, ◌+◌, ◌&&◌, ◌||◌, ℕ, Bool, not, nat_eq, true, cond, option_map, IsSome, OnOk, OnErr};
 ghost use Rattle.std.specs.FinMap as map;
 ghost use Rattle.wait_set.specs.Next.{IsNext};
 ghost use Rattle.wait_set.specs.Queued.{has_at, NoneEmpty};
+ghost use Rattle.wait_set.specs.Tied.{IsFlagged};
+ghost use Rattle.wait_set.specs.Waits.{is_left, touched};
 
+use crate::number_set::NumberSet;
 use crate::queue::Queue;
+use crate::waiting::Waiting;
 use maps::NumMap;
 use std::alloc::{AllocError, Global};
 use std::marker::Model;
 
 /// The threads that stand at each number. A number at which nobody stands has no queue.
 ///
-/// Each change, and each look for the next thread or number, takes the logarithm of how many numbers and how many threads at
-/// the number there are.
+/// Each change, and each look for the next number, takes the logarithm of how many numbers and how many threads at the number
+/// there are. A walk over the threads at a number looks for the number once.
 #[derive(Drop)]
 pub struct Queues {
     alloc: Global,
@@ -73,12 +77,21 @@ impl Queues {
         self.by_number.get_mut(number).leave(thread);
     }
 
-    /// The next thread after `after` that stands at the number.
-    pub fn next(&self, number: u64, after: Option<u64>) -> Option<u64>
-        ensures { IsNext (λ t. has_at self.now number t) after result }
+    /// Each thread that stands at the number, which is in `threads`, is left to be tested.
+    pub(crate) fn leave_each(
+        &self,
+        number: u64,
+        threads: &mut NumMap<Waiting>,
+        left: &mut NumberSet,
+    )
+        requires there { (t : ℕ) → has_at self.now number t ≡ true → IsSome (map.get threads.old t) }
+        requires set { IsFlagged is_left threads.old left.old }
+        ensures marks { (t : ℕ) → map.get threads.new t ≡ cond (has_at self.now number t) (option_map touched (map.get threads.old t)) (map.get threads.old t) }
+        ensures set { IsFlagged is_left threads.new left.new }
     {
-        let queue = self.by_number.get(number)?;
-        queue.next(after)
+        if let Some(queue) = self.by_number.get(number) {
+            queue.leave_each(threads, left);
+        }
     }
 
     /// The next number after `after` at which somebody stands.

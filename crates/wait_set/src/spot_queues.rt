@@ -1,15 +1,19 @@
 //! The threads that stand at each spot.
-ghost use Rattle.std.specs.Prelude.{◌≡◌, ◌&&◌, ◌||◌, ℕ, false, not, nat_eq, OnOk, OnErr};
+ghost use Rattle.std.specs.Prelude.{◌≡◌, ◌&&◌, ◌||◌, ℕ, false, true, not, cond, nat_eq, option_map, IsSome, OnOk, OnErr};
 ghost use Rattle.std.specs.FinMap as map;
 ghost use Rattle.wait_set.specs.Next.{IsNext};
 ghost use Rattle.wait_set.specs.Spots.{same_spot, listed};
 ghost use Rattle.wait_set.specs.declared.spot.Spot.{Spot};
 ghost use Rattle.wait_set.specs.Queued.{NoneEmpty};
 ghost use Rattle.wait_set.specs.SpotQueues.{spot_has};
-ghost use Rattle.wait_set.specs.Waits.{lasts};
+ghost use Rattle.wait_set.specs.Tied.{IsFlagged};
+ghost use Rattle.wait_set.specs.Waits.{is_left, lasts, touched};
 
+use crate::number_set::NumberSet;
 use crate::queues::Queues;
 use crate::spot::Spot;
+use crate::waiting::Waiting;
+use maps::NumMap;
 use std::alloc::{AllocError, Global};
 
 /// The threads that stand at each spot.
@@ -75,14 +79,17 @@ impl SpotQueues {
         }
     }
 
-    /// The next thread after `after` that stands at the spot.
-    pub fn next(&self, spot: Spot, after: Option<u64>) -> Option<u64>
-        ensures { IsNext (λ t. spot_has self.now spot t) after result }
+    /// Each thread that stands at the spot, which is in `threads`, is left to be tested. Takes no memory.
+    pub(crate) fn leave_each(&self, spot: Spot, threads: &mut NumMap<Waiting>, left: &mut NumberSet)
+        requires there { (t : ℕ) → spot_has self.now spot t ≡ true → IsSome (map.get threads.old t) }
+        requires set { IsFlagged is_left threads.old left.old }
+        ensures marks { (t : ℕ) → map.get threads.new t ≡ cond (spot_has self.now spot t) (option_map touched (map.get threads.old t)) (map.get threads.old t) }
+        ensures set { IsFlagged is_left threads.new left.new }
     {
         match spot {
-            Spot::Channel(number) => self.channels.next(number, after),
-            Spot::Ended(number) => self.ended.next(number, after),
-            Spot::Moment(number) => self.moments.next(number, after),
+            Spot::Channel(number) => self.channels.leave_each(number, threads, left),
+            Spot::Ended(number) => self.ended.leave_each(number, threads, left),
+            Spot::Moment(number) => self.moments.leave_each(number, threads, left),
         }
     }
 

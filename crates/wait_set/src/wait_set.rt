@@ -1,22 +1,27 @@
 //! The set of threads that wait or run.
-ghost use Rattle.std.specs.Prelude.{◌≡◌, ◌||◌, ◌++◌, ◌∷◌, [], ℕ, Bool, Option, true, false, None, Some, cond, length, nat_eq, nat_lt, option_map, take, IsSome, OnOk, OnErr};
+ghost use Rattle.std.specs.Prelude.{◌≡◌, ◌+◌, ◌<◌, ◌≤◌, ◌||◌, ◌&&◌, ◌++◌, ◌∷◌, [], ℕ, Bool, Option, true, false, None, Some};
+ghost use Rattle.std.specs.Prelude.{cond, length, nat_eq, nat_le, nat_lt, option_map, take, IfSome, IsSome, OnOk, OnErr};
 ghost use Rattle.std.specs.FinMap as map;
-ghost use Rattle.wait_set.specs.Next.{IsNext};
+ghost use Rattle.wait_set.specs.Next.{is_after, IsNext};
 ghost use Rattle.wait_set.specs.declared.spot.Spot.{Spot};
 ghost use Rattle.wait_set.specs.declared.waiting.Waiting.{Waiting};
 ghost use Rattle.wait_set.specs.Spots.{listed};
 ghost use Rattle.wait_set.specs.SpotQueues.{spot_has};
-ghost use Rattle.wait_set.specs.Waits.{counted, flag, fresh, is_awaited, is_everywhere, is_left, is_ready, is_running, lists, mark_of, resting, running, stands, tested, touched, IsStood};
+ghost use Rattle.wait_set.specs.Waits.{counted, flag, fresh, is_awaited, is_due, is_everywhere, is_left, is_ready, is_running, is_up, lists, mark_of};
+ghost use Rattle.wait_set.specs.Waits.{resting, running, stands, tested, touched, where_so, AreTested, IsExact, IsStood};
 
+use crate::leaving::leave;
 use crate::number_set::NumberSet;
 use crate::queues::next_key;
 use crate::spot::Spot;
 use crate::spot_list::SpotList;
 use crate::spot_queues::SpotQueues;
+use crate::steps::{Parts, Steps};
 use crate::waiting::Waiting;
 use maps::NumMap;
 use std::alloc::{AllocError, Global};
 use std::marker::Model;
+use std::sync::ledger::Ledger;
 
 /// The threads that wait or run, by number. In contracts it is a finite map from each to where it stands, how it is marked, and whether
 /// it runs. One that runs again keeps its places, but for moments: one that waits in the same call again and again takes none anew.
@@ -224,13 +229,68 @@ impl WaitSet {
         requires { IsSome (map.get self.old thread) }
         ensures { (s : Waiting) → map.get self.old thread ≡ Some s → self.new ≡ map.insert self.old thread (touched s) }
     {
-        let waiting = self.threads.get_mut(thread);
-        self.left.change(thread, waiting.is_left(), !waiting.runs);
-        waiting.left = true;
+        leave(&mut self.threads, &mut self.left, thread);
+    }
+
+    /// Each thread that stands at the spot is left to be tested. It tests none, and takes no memory.
+    ///
+    /// `exact`: where a change concerns those at the spot alone, each thread that isn't left is marked as before by whether it is ready.
+    pub fn touch(&mut self, spot: Spot)
+        ensures marks { self.new ≡ where_so (stands spot) (λ _ s. touched s) self.old }
+        ensures places { (x : Spot) (t : ℕ) → flag (stands x) (map.get self.new t) ≡ flag (stands x) (map.get self.old t) }
+        ensures count { counted is_left self.new ≤ counted is_left self.old + counted (stands spot) self.old }
+        ensures exact { (before now : ℕ → Bool) → IsExact before self.old → ((t : ℕ) → flag (stands spot) (map.get self.old t) ≡ false → before t ≡ now t) → IsExact now self.new }
+    {
+        self.touch_listed(spot);
+        self.touch_everywhere();
+    }
+
+    /// Each thread that stands, by its list, at a moment after `after` and up to `until` is left to be tested. It tests none, and takes
+    /// no memory.
+    pub fn touch_moments(&mut self, after: Option<u64>, until: u64)
+        ensures marks { self.new ≡ where_so (is_due after (Some until)) (λ _ s. touched s) self.old }
+        ensures places { (x : Spot) (t : ℕ) → flag (stands x) (map.get self.new t) ≡ flag (stands x) (map.get self.old t) }
+        ensures count { counted is_left self.new ≤ counted is_left self.old + counted (is_due after (Some until)) self.old }
+        ensures exact { (before now : ℕ → Bool) → IsExact before self.old → ((t : ℕ) → flag (is_due after (Some until)) (map.get self.old t) ≡ false → before t ≡ now t) → IsExact now self.new }
+    {
+        let mut reached = after;
+        while let Some(moment) = self.next_due(reached, until) {
+            self.touch_listed(Spot::Moment(moment));
+            reached = Some(moment);
+        }
+    }
+
+    /// Each thread that stands everywhere is left to be tested. It tests none, and takes no memory.
+    pub fn touch_everywhere(&mut self)
+        ensures { self.new ≡ where_so is_everywhere (λ _ s. touched s) self.old }
+    {
+        let mut after = None;
+        while let Some(thread) = self.next_everywhere(after) {
+            self.leave(thread);
+            after = Some(thread);
+        }
+    }
+
+    // The next moment after `after` and up to `until` at which a thread stands by its list.
+    fn next_due(&self, after: Option<u64>, until: u64) -> Option<u64>
+        ensures { IsNext (λ m. nat_le m until && is_awaited self.now m) after result }
+    {
+        match self.next_moment(after) {
+            None => None,
+            Some(moment) => { if moment <= until { Some(moment) } else { None } }
+        }
+    }
+
+    // Each thread that stands at the spot by its list is left to be tested.
+    fn touch_listed(&mut self, spot: Spot)
+        ensures { self.new ≡ where_so (lists spot) (λ _ s. touched s) self.old }
+    {
+        self.queues
+            .leave_each(spot, &mut self.threads, &mut self.left);
     }
 
     // The thread, which waits, is marked as ready or not, and is no longer left to be tested.
-    pub(crate) fn mark(&mut self, thread: u64, ready: bool)
+    fn mark(&mut self, thread: u64, ready: bool)
         requires there { IsSome (map.get self.old thread) }
         requires waits { flag is_running (map.get self.old thread) ≡ false }
         ensures { (s : Waiting) → map.get self.old thread ≡ Some s → self.new ≡ map.insert self.old thread (tested ready s) }
@@ -255,14 +315,14 @@ impl WaitSet {
     }
 
     // The next thread after `after` that waits and is marked as ready.
-    pub(crate) fn next_ready(&self, after: Option<u64>) -> Option<u64>
+    fn next_ready(&self, after: Option<u64>) -> Option<u64>
         ensures { IsNext (λ t. flag is_ready (map.get self.now t)) after result }
     {
         self.ready.next(after)
     }
 
     // The next thread after `after` that waits and is left to be tested.
-    pub(crate) fn next_left(&self, after: Option<u64>) -> Option<u64>
+    fn next_left(&self, after: Option<u64>) -> Option<u64>
         ensures { IsNext (λ t. flag is_left (map.get self.now t)) after result }
     {
         self.left.next(after)
@@ -282,15 +342,6 @@ impl WaitSet {
         self.running > 0
     }
 
-    // The next thread after `after` that stands at the spot.
-    pub(crate) fn next_standing(&self, spot: Spot, after: Option<u64>) -> Option<u64>
-        ensures { IsNext (λ t. flag (stands spot) (map.get self.now t)) after result }
-    {
-        let queued = self.queues.next(spot, after);
-        let spread = self.everywhere.next(after);
-        earlier(queued, spread)
-    }
-
     /// The next thread after `after`.
     pub fn next_thread(&self, after: Option<u64>) -> Option<u64>
         ensures { IsNext (λ t. map.contains_key self.now t) after result }
@@ -305,29 +356,55 @@ impl WaitSet {
         self.everywhere.next(after)
     }
 
-    // The next thread after `after` that stands at the spot by its list.
-    pub(crate) fn next_listed(&self, spot: Spot, after: Option<u64>) -> Option<u64>
-        ensures { IsNext (λ t. flag (lists spot) (map.get self.now t)) after result }
-    {
-        self.queues.next(spot, after)
-    }
-
     /// The next moment after `after` at which a thread stands by its list.
     pub fn next_moment(&self, after: Option<u64>) -> Option<u64>
         ensures { IsNext (λ m. is_awaited self.now m) after result }
     {
         self.queues.next_moment(after)
     }
-}
 
-// The lesser of two numbers that may be none.
-fn earlier(first: Option<u64>, second: Option<u64>) -> Option<u64>
-    ensures { (p q : ℕ → Bool) (after : Option ℕ) → IsNext p after first → IsNext q after second → IsNext (λ t. p t || q t) after result }
-{
-    match (first, second) {
-        (Some(one), Some(other)) => Some(one.min(other)),
-        (Some(one), None) => Some(one),
-        (None, other) => other,
+    // Tests the thread, which waits, and marks it by what comes of it.
+    fn settle_thread<P: Parts, L: Ledger>(&mut self, parts: &P, thread: u64, steps: &mut Steps<L>)
+        requires { flag is_left (map.get self.old thread) ≡ true }
+        ensures marks { (s : Waiting) → map.get self.old thread ≡ Some s → self.new ≡ map.insert self.old thread (tested (P.ready parts.now thread) s) }
+        ensures cost { steps.new ≡ steps.old + 1 }
+    {
+        let ready = parts.is_ready(thread, steps);
+        self.mark(thread, ready);
+    }
+
+    /// The ready thread with the least number after `after`, or of all where that is `None`. On the way to it those are tested, once each, that
+    /// wait and are left to be, and marked by what comes of it. Takes no memory.
+    ///
+    /// `next`: where each thread that isn't left is marked by whether it is ready, no ready thread is missed.
+    pub fn next_settled<P: Parts, L: Ledger>(
+        &mut self,
+        parts: &P,
+        after: Option<u64>,
+        steps: &mut Steps<L>,
+    ) -> Option<u64>
+        ensures marks { AreTested (P.ready parts.now) self.old self.new }
+        ensures cost { steps.new + counted is_left self.new ≡ steps.old + counted is_left self.old }
+        ensures exact { IsExact (P.ready parts.now) self.old → IsExact (P.ready parts.now) self.new }
+        ensures next { IsExact (P.ready parts.now) self.old → IsNext (λ t. is_up (P.ready parts.now) (map.get self.old t) t) after result }
+    {
+        while let Some(thread) = self.next_test(after) {
+            self.settle_thread(parts, thread, steps);
+        }
+        self.next_ready(after)
+    }
+
+    // The first thread after `after` that waits and is left to be tested, unless one before it is marked as ready.
+    fn next_test(&self, after: Option<u64>) -> Option<u64>
+        ensures left { IfSome result (λ t. flag is_left (map.get self.now t) ≡ true) }
+        ensures none { result ≡ None → (t : ℕ) → is_after after t ≡ true → flag is_left (map.get self.now t) ≡ true
+            → (k : ℕ) × (k < t) × (is_after after k ≡ true) × (flag is_ready (map.get self.now k) ≡ true) }
+    {
+        let left = self.next_left(after)?;
+        match self.next_ready(after) {
+            Some(ready) if ready < left => None,
+            _ => Some(left),
+        }
     }
 }
 

@@ -1,8 +1,9 @@
 -- The numbers of processes. Process 0 has depth 0. A child of a process has the parent's number with one byte more: the byte of the
 -- parent's depth, counted from the most significant of four, says which of the parent's children it is.
-use Rattle.std.specs.Prelude.{◌≡◌, ◌⊎◌, ℕ, zero, suc, ◌+◌, ◌*◌, ◌^◌, ◌<◌, ◌≤◌, Some}
+use Rattle.std.specs.Prelude.{◌≡◌, ℕ, zero, suc, ◌+◌, ◌*◌, ◌^◌, ◌<◌, ◌≤◌, Some, IsSome}
 use Rattle.std.specs.Ordering.{nat_cmp}
 use Rattle.std.specs.FinMap.{FinMap, get}
+use Rattle.abi_types.specs.declared.status.Status.{Status}
 use Rattle.kernel_model.specs.State.{ProcessState}
 
 -- what 1 in the byte of this depth adds to a number
@@ -20,17 +21,18 @@ child_of parent depth i = parent + i * byte_unit depth
 abbrev pub MayHaveChild : ℕ → ℕ → Type 0
 MayHaveChild depth i = (depth < 4) × (1 ≤ i) × (i ≤ 254)
 
--- the process with this number and this depth is a child that one of the processes has counted
-pub record IsChild (processes : FinMap nat_cmp ProcessState) (p depth : ℕ) : Type 0 where
-  pub parent : ℕ
-  pub own : ProcessState
-  pub made : get processes parent ≡ Some own
-  pub i : ℕ
-  pub may : MayHaveChild own.depth i
-  pub counted : i ≤ own.counts.forks
-  pub number : p ≡ child_of parent own.depth i
-  pub deeper : depth ≡ own.depth + 1
+-- the number is that of a child of a parent with this number and this depth
+abbrev pub IsChildOf : ℕ → ℕ → ℕ → Type 0
+IsChildOf parent depth p = (i : ℕ) × MayHaveChild depth i × (p ≡ child_of parent depth i)
 
--- it is process 0, of depth 0, or such a child
-abbrev pub IsBorn : FinMap nat_cmp ProcessState → ℕ → ℕ → Type 0
-IsBorn processes p depth = ((p ≡ 0) × (depth ≡ 0)) ⊎ IsChild processes p depth
+-- the process with this number has this depth: it is process 0, of depth 0, or a child of one less deep that was made
+abbrev pub IsBorn : FinMap nat_cmp Status → ℕ → ℕ → Type 0
+IsBorn statuses zero p = p ≡ 0
+IsBorn statuses (suc depth) p = (parent : ℕ) × IsSome (get statuses parent) × IsBorn statuses depth parent × IsChildOf parent depth p
+
+-- Each process that was made has a depth, and one that lives has kept it. One that lives has counted each of its children that was made.
+pub record AreBorn (statuses : FinMap nat_cmp Status) (processes : FinMap nat_cmp ProcessState) : Type 0 where
+  pub made : (p : ℕ) → IsSome (get statuses p) → (depth : ℕ) × IsBorn statuses depth p
+  pub deep : (p : ℕ) (own : ProcessState) → get processes p ≡ Some own → IsBorn statuses own.depth p
+  pub counted : (p i : ℕ) (own : ProcessState) → get processes p ≡ Some own → MayHaveChild own.depth i
+      → IsSome (get statuses (child_of p own.depth i)) → i ≤ own.counts.forks

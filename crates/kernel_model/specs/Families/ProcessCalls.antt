@@ -1,6 +1,6 @@
 -- Calls on processes and threads.
 use Rattle.std.specs.Prelude.{ℕ, ◌-◌, ◌^◌, ◌==◌, ◌&&◌, nat_lt, not, Bool, true, false, List, [], ◌∷◌, Option, None, Some, is_some}
-use Rattle.std.specs.FinMap.{empty, get, len, remove}
+use Rattle.std.specs.FinMap.{get, len, remove}
 use Rattle.std.specs.List.{find}
 use Rattle.abi_base.specs.declared.errno.Errno.TheVariants.{Again, Inval, Notsup, Perm}
 use Rattle.abi_base.specs.declared.signal.Signal.{Signal}
@@ -15,20 +15,19 @@ use Rattle.kernel_model.specs.Families.Locks.{release_of, released_word, unlocke
 use Rattle.kernel_model.specs.Meaning.{Meaning, answering}
 use Rattle.kernel_model.specs.Outcome.{Outcome, replies}
 use Rattle.kernel_model.specs.OwnChanges.{ends_one, makes_one, next_thread, with_next_thread, without_thread}
-pub use Rattle.kernel_model.specs.OwnChanges.{ended_process}
 use Rattle.kernel_model.specs.Reply.{refused, success}
-use Rattle.kernel_model.specs.State.{ProcessState, Update, set_table, set_process, set_status}
+use Rattle.kernel_model.specs.State.{ProcessState, Update, drop_own, set_process, set_status}
 
--- the end of a process that has this of its own: its status, and no descriptor and no thread left
-abbrev pub end_updates : ℕ → Option ProcessState → Status → List Update
-end_updates p own status = set_status p status ∷ set_table p empty ∷ set_process p (ended_process own) ∷ []
+-- the end of a process: it has a status, and nothing of its own any more
+abbrev pub end_updates : ℕ → Status → List Update
+end_updates p status = set_status p status ∷ drop_own p ∷ []
 
 -- the calling process ends; the reply reaches no thread
-abbrev pub exit_of : ℕ → Option ProcessState → ℕ → Outcome
-exit_of p own code = record { answer = answer.Reply (success 0 0); updates = end_updates p own (Exit code) }
+abbrev pub exit_of : ℕ → ℕ → Outcome
+exit_of p code = record { answer = answer.Reply (success 0 0); updates = end_updates p (Exit code) }
 
 abbrev pub proc_exit : ℕ → Meaning
-proc_exit code = record (answering [] (success 0 0)) { effect = λ constants v who table. exit_of who.pid (v.process who.pid) code }
+proc_exit code = record (answering [] (success 0 0)) { effect = λ constants v who table. exit_of who.pid code }
 
 -- ---- proc_raise
 
@@ -57,20 +56,20 @@ signals =
 abbrev pub signal_of : ℕ → Option Signal
 signal_of number = find (λ signal. number_of signal == number) signals
 
-abbrev pub raise_as : Raised → ℕ → Option ProcessState → Signal → Outcome
-raise_as stops p own signal = replies (refused Notsup)
-raise_as passes p own signal = replies (success 0 0)
-raise_as ends p own signal = record { answer = answer.Reply (success 0 0); updates = end_updates p own (Killed signal) }
+abbrev pub raise_as : Raised → ℕ → Signal → Outcome
+raise_as stops p signal = replies (refused Notsup)
+raise_as passes p signal = replies (success 0 0)
+raise_as ends p signal = record { answer = answer.Reply (success 0 0); updates = end_updates p (Killed signal) }
 
-abbrev pub raise_of : ℕ → Option ProcessState → Option Signal → Outcome
-raise_of p own None = replies (refused Inval)
-raise_of p own (Some signal) = raise_as (raised_by signal) p own signal
+abbrev pub raise_of : ℕ → Option Signal → Outcome
+raise_of p None = replies (refused Inval)
+raise_of p (Some signal) = raise_as (raised_by signal) p signal
 
 -- The calling process gets the signal. A number that is no signal's, and a signal that would stop it, are refused by what the call's
 -- registers show, and here again.
 abbrev pub proc_raise : ℕ → Meaning
 proc_raise number = record (answering (Inval ∷ Notsup ∷ []) (success 0 0)) {
-  effect = λ constants v who table. raise_of who.pid (v.process who.pid) (signal_of number);
+  effect = λ constants v who table. raise_of who.pid (signal_of number);
 }
 
 -- ---- threads
@@ -107,11 +106,11 @@ is_last_thread t own = len (remove own.threads t) == 0
 
 -- what is left of the process as its thread ends: with its last one it exits with 0
 abbrev pub left_if_last : Bool → ℕ → ℕ → ProcessState → List Update
-left_if_last true p t own = end_updates p (Some own) (Exit 0)
+left_if_last true p t own = end_updates p (Exit 0)
 left_if_last false p t own = set_process p (without_thread t own) ∷ []
 
 abbrev pub left_updates : ℕ → ℕ → Option ProcessState → List Update
-left_updates p t None = end_updates p None (Exit 0)
+left_updates p t None = end_updates p (Exit 0)
 left_updates p t (Some own) = left_if_last (is_last_thread t own) p t own
 
 -- the thread lets go of a lock, whose word becomes this and which leaves the process so, and ends; where it may not let go it goes on

@@ -12,21 +12,15 @@ use Rattle.kernel_parts.proofs.releasing.release.Goals as goal
 pub loop-kind-init : goal.loop-kind-init
 loop-kind-init c = (
   going_starts c.args.tables.now c.args.processes.now c.args.statuses.now c.args.channels.now c.args.objects.now c.args.tree.now c.requires.tree c.requires.used c.requires.counted
-      c.requires.tables c.requires.processes c.requires.going,
+      c.requires.going,
   λ last. is_touched_self (state_by c.args.tables.now c.args.processes.now c.args.statuses.now c.args.objects.now.kinds c.args.channels.now c.args.tree.now) c.args.waits.now,
 )
 
-pub kill-requires-clause-covered : goal.kill-requires-clause-covered
-kill-requires-clause-covered c =
+pub kill-requires : goal.kill-requires
+kill-requires c =
     tables_covered (state_by c.args.tables.now c.args.processes.now c.args.statuses.now c.args.objects.now.kinds c.args.channels.now c.args.tree.now) c.args.tree.now
     c.loop-kind.tree c.loop-kind.tables c.loop-kind.processes c.loop-kind.statuses c.loop-kind.channels c.loop-kind.objects c.pop_unheld.new.self
     c.in-Some.field-0-0 c.in-Some.kind c.in-Some.ensures.unheld c.in-Some.ensures.kind c.in-Some.ensures.new c.loop-kind.invariant.0
-
-pub kill-requires-clause-tables : goal.kill-requires-clause-tables
-kill-requires-clause-tables c = c.loop-kind.invariant.0.all_tables
-
-pub kill-requires-clause-processes : goal.kill-requires-clause-processes
-kill-requires-clause-processes c = c.loop-kind.invariant.0.all_own
 
 pub loop-kind-smaller-in-Process : goal.loop-kind-smaller-in-Process
 loop-kind-smaller-in-Process c =

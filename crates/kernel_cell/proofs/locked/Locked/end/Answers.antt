@@ -1,13 +1,24 @@
-use Rattle.std.proofs.Common.{[], ◌∷◌, ◌++◌, sym, ap, subst, ◌∙◌}
+use Rattle.std.proofs.Common.{◌≢◌, [], ◌∷◌, ◌++◌, sym, ap, subst, ◌∙◌}
+use Rattle.abi_types.specs.declared.status.Status.TheVariants.{Live}
 use Rattle.run_types.specs.declared.history.Entry.{Entry}
 use Rattle.run_model.specs.Legal.{Fits}
 use Rattle.run_model.specs.World.{world}
 use Rattle.shared_history.specs.Kept.{Takes}
+use Rattle.kernel_cell.specs.Results.{status_of}
+use Rattle.kernel_cell.specs.declared.results.EndBy.{EndBy}
+use Rattle.kernel_cell.specs.declared.results.EndBy.TheVariants as end_by
 use Rattle.kernel_cell.proofs.RecordedSteps.{kernel_early, log_short, end_fits, end_recorded, end_came}
 use Rattle.kernel_cell.proofs.locked.Locked.end.Goals as goal
 
 pub end-requires-clause-early : goal.end-requires-clause-early
 end-requires-clause-early g c = kernel_early c.requires.recorded
+
+not_live : (how : EndBy) → status_of how ≢ Live
+not_live (end_by.Trap signal) e = cc
+not_live end_by.Expire e = cc
+
+pub end-requires-clause-dead : goal.end-requires-clause-dead
+end-requires-clause-dead g c = λ live. not_live c.args.how (sym c.status_of.ensures ∙ live)
 
 pub append-requires-clause-fits : goal.append-requires-clause-fits
 append-requires-clause-fits g c =

@@ -6,11 +6,11 @@ use Rattle.kernel_model.specs.State.{State, ProcessState, thread_of}
 use Rattle.kernel_model.proofs.Locks.{KeepsEach}
 use Rattle.kernel_parts.specs.Touching.{HasEach, told_entry}
 use Rattle.kernel_core.specs.contracts.kernel.Kernel.{the_view}
-use Rattle.kernel_core.proofs.Leaving.{with_process}
+use Rattle.kernel_invariant.proofs.Leaving.{with_process}
 use Rattle.kernel_core.proofs.OwnCalls.{own_call, own_call_done, own_call_kept, waited_only, waited_stays, IsOwnCall}
-use Rattle.kernel_core.proofs.Parks.{thread_by}
+use Rattle.kernel_invariant.proofs.Parks.{thread_by}
 use Rattle.maps.specs.Maps.{get-insert-same}
-use Rattle.kernel_core.proofs.HeldTold.{told_by, wait_keeps}
+use Rattle.kernel_invariant.proofs.HeldTold.{told_by, wait_keeps}
 use Rattle.kernel_core.proofs.kernel.Kernel.ask_lock.Goals as goal
 use Rattle.kernel_core.proofs.kernel.Kernel.ask_lock.Goals.{After-touch_told}
 

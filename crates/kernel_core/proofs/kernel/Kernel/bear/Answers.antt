@@ -6,10 +6,10 @@ use Rattle.kernel_model.specs.State.{State, put_all}
 use Rattle.kernel_model.proofs.Valids.{release_valid, same_value}
 use Rattle.kernel_core.specs.contracts.kernel.Kernel.{the_view}
 use Rattle.readiness_laws.specs.Watched.{looked_at}
-use Rattle.kernel_core.specs.Kernel.{AreHeld}
-use Rattle.kernel_core.proofs.HeldBirths.{born_is_held, unborn_is_held}
-use Rattle.kernel_core.proofs.Kept.{kept_again}
-use Rattle.kernel_core.proofs.ForkCalls.{child_seen, counts_room, fork_kept, fork_valid, may_put, opens_counted, opens_there, plan_unheld, put_is}
+use Rattle.kernel_invariant.specs.Held.{AreHeld}
+use Rattle.kernel_invariant.proofs.HeldBirths.{born_is_held, unborn_is_held}
+use Rattle.kernel_invariant.proofs.Kept.{kept_again}
+use Rattle.kernel_invariant.proofs.ForkCalls.{child_seen, counts_room, fork_kept, fork_valid, may_put, opens_counted, opens_there, plan_unheld, put_is}
 use Rattle.kernel_core.proofs.kernel.Kernel.bear.Goals as goal
 
 pub put_child-put-requires-clause-may : goal.put_child-put-requires-clause-may

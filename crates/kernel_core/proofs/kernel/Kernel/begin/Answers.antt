@@ -9,16 +9,16 @@ use Rattle.kernel_model.specs.Release.{release}
 use Rattle.kernel_model.specs.Start.{canary_words}
 use Rattle.kernel_model.specs.State.{State, ProcessState, put_all}
 use Rattle.kernel_model.specs.Valid.{IsNearlyValid}
-use Rattle.kernel_model.proofs.Valids.{same_value, some_again}
+use Rattle.kernel_model.proofs.Valids.{same_value}
 use Rattle.kernel_parts.specs.Released.{state_by}
 use Rattle.process_calls.specs.Forks.{IsOpenOf}
 use Rattle.kernel_core.specs.Programs.{begun_updates}
 use Rattle.kernel_core.specs.contracts.kernel.Kernel.{the_view}
-use Rattle.kernel_core.proofs.HeldEnds.{begun_is_held, process_few}
+use Rattle.kernel_invariant.proofs.HeldEnds.{begun_is_held, process_few}
 use Rattle.kernel_core.proofs.Released.{kept_released, parts, released_is_held, released_to}
-use Rattle.kernel_core.proofs.Channels.{covered_alone, table_counts}
-use Rattle.kernel_core.proofs.ForkCalls.{counts_room, opens_counted}
-use Rattle.kernel_core.proofs.Kept.{small_set}
+use Rattle.kernel_invariant.proofs.Channels.{covered_alone, table_counts}
+use Rattle.kernel_invariant.proofs.ForkCalls.{counts_room, opens_counted}
+use Rattle.kernel_invariant.proofs.Kept.{small_set}
 use Rattle.kernel_core.proofs.kernel.Kernel.begin.Goals as goal
 use Rattle.kernel_core.proofs.kernel.Kernel.begin.Goals.{After-get_mut-own, After-release}
 
@@ -88,16 +88,6 @@ pub release-requires-clause-counted : goal.release-requires-clause-counted
 release-requires-clause-counted c =
     table_counts c.self.inside.tables c.from-p.result c.get_mut.result.now (sym c.get_mut.ensures.value) c.self.inside.channels c.self.inside.objects.counts
     c.self.invariant.kept.counted c.put_table.new.table c.put_table.new.objects.counts c.put_table.ensures.counts
-
-pub release-requires-clause-tables : goal.release-requires-clause-tables
-release-requires-clause-tables c = λ q.
-    some_again c.self.inside.tables c.from-p.result c.get_mut.result.now c.put_table.new.table q (sym c.get_mut.ensures.value)
-    ∙ c.self.invariant.kept.valid.nearly.tables q
-
-pub release-requires-clause-processes : goal.release-requires-clause-processes
-release-requires-clause-processes c = λ q.
-    some_again c.self.inside.processes c.from-p.result c.get_mut-own.result.now c.begin_anew.new.self q (sym c.get_mut-own.ensures.value)
-    ∙ c.self.invariant.kept.valid.nearly.owns q
 
 pub release-requires-clause-used : goal.release-requires-clause-used
 release-requires-clause-used c = λ n there.

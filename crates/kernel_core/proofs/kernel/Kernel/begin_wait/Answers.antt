@@ -8,12 +8,12 @@ use Rattle.kernel_model.proofs.Parking.{waiting_may}
 use Rattle.kernel_parts.specs.Keys.{key}
 use Rattle.readiness_laws.specs.Watched.{looked_at}
 use Rattle.wait_set.specs.Waits.{resting}
-use Rattle.kernel_core.specs.Kernel.{AreHeld, IsKept}
-use Rattle.kernel_core.specs.Readiness.{places_by_key, HasStood}
-use Rattle.kernel_core.specs.Waiting.{IsUnready}
+use Rattle.kernel_invariant.specs.Held.{AreHeld, IsKept}
+use Rattle.kernel_invariant.specs.Readiness.{places_by_key, HasStood}
+use Rattle.kernel_invariant.specs.Waiting.{IsUnready}
 use Rattle.kernel_core.specs.contracts.kernel.Kernel.{the_view}
-use Rattle.kernel_core.proofs.HeldStanding.{rested_is_held}
-use Rattle.kernel_core.proofs.Parks.{after_kept, set_after}
+use Rattle.kernel_invariant.proofs.HeldStanding.{rested_is_held}
+use Rattle.kernel_invariant.proofs.Parks.{after_kept, set_after}
 use Rattle.kernel_core.proofs.kernel.Kernel.begin_wait.Goals as goal
 use Rattle.kernel_core.proofs.kernel.Kernel.begin_wait.Goals.{After-park}
 

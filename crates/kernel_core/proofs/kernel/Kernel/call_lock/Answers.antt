@@ -4,7 +4,7 @@ use Rattle.kernel_model.specs.State.{State}
 use Rattle.kernel_model.specs.Step.{tick, IsStep}
 use Rattle.kernel_core.specs.contracts.kernel.Kernel.{the_view}
 use Rattle.kernel_core.proofs.Asking.{lock_lacks, lock_refused}
-use Rattle.kernel_core.proofs.HeldTimes.{all_held_at}
+use Rattle.kernel_invariant.proofs.HeldTimes.{all_held_at}
 use Rattle.kernel_core.proofs.kernel.Kernel.call_lock.Goals as goal
 
 pub returns-in-Some-clause-step : goal.returns-in-Some-clause-step

@@ -13,19 +13,18 @@ use Rattle.tree_model.specs.Opens.{is_used}
 use Rattle.kernel_model.specs.Release.{release}
 use Rattle.kernel_model.specs.State.{State, Update, put_all}
 use Rattle.kernel_model.specs.Valid.{IsNearlyValid}
-use Rattle.kernel_model.proofs.Valids.{some_again}
 use Rattle.kernel_parts.specs.Released.{state_by}
 use Rattle.kernel_parts.specs.Changes.{change_outcome, opens_after, table_after}
 use Rattle.kernel_core.specs.contracts.kernel.Kernel.{the_view}
 use Rattle.readiness_laws.specs.Watched.{looked_at}
-use Rattle.kernel_core.specs.Kernel.{AreHeld}
-use Rattle.kernel_core.specs.Readiness.{number_changed, open_changed, AreLeftBy}
-use Rattle.kernel_core.proofs.HeldTables.{change_is_held}
+use Rattle.kernel_invariant.specs.Held.{AreHeld}
+use Rattle.kernel_invariant.specs.Readiness.{number_changed, open_changed, AreLeftBy}
+use Rattle.kernel_invariant.proofs.HeldTables.{change_is_held}
 use Rattle.kernel_core.proofs.Released.{kept_released, released_is_held, released_to}
-use Rattle.kernel_core.proofs.Changes.{change_of_own, change_small, change_valid, puts_are}
-use Rattle.kernel_core.proofs.Channels.{counts_few, covered_alone, table_counts}
+use Rattle.kernel_invariant.proofs.Changes.{change_of_own, change_small, change_valid, puts_are}
+use Rattle.kernel_invariant.proofs.Channels.{counts_few, covered_alone, table_counts}
 use Rattle.kernel_core.proofs.Done.{done_at, lacked}
-use Rattle.kernel_core.proofs.Kept.{kept_again, small_set}
+use Rattle.kernel_invariant.proofs.Kept.{kept_again, small_set}
 use Rattle.kernel_core.proofs.Uses.{change_use}
 use Rattle.kernel_core.proofs.kernel.Kernel.change_descriptors.Goals as goal
 use Rattle.kernel_core.proofs.kernel.Kernel.change_descriptors.Goals.{In_err-reply, After-release}
@@ -125,14 +124,6 @@ pub release-requires-clause-counted : goal.release-requires-clause-counted
 release-requires-clause-counted c =
     table_counts c.self.inside.tables c.from-p.result c.get_mut.result.now (sym c.get_mut.ensures.value) c.self.inside.channels c.self.inside.objects.counts
     c.self.invariant.kept.counted c.change_table.new.table c.change_table.new.objects.counts c.in_ok-reply.ensures.counts
-
-pub release-requires-clause-tables : goal.release-requires-clause-tables
-release-requires-clause-tables c = λ q.
-    some_again c.self.inside.tables c.from-p.result c.get_mut.result.now c.change_table.new.table q (sym c.get_mut.ensures.value)
-    ∙ c.self.invariant.kept.valid.nearly.tables q
-
-pub release-requires-clause-processes : goal.release-requires-clause-processes
-release-requires-clause-processes c = c.self.invariant.kept.valid.nearly.owns
 
 -- each node is as much used after the change as before it, and so is used
 pub release-requires-clause-used : goal.release-requires-clause-used

@@ -7,7 +7,7 @@ use Rattle.kernel_model.proofs.Locks.{KeepsEach}
 use Rattle.kernel_parts.specs.Touching.{HasEach, told_entry}
 use Rattle.kernel_core.specs.contracts.kernel.Kernel.{the_view}
 use Rattle.kernel_core.proofs.OwnCalls.{own_call, own_call_done, own_call_kept, signalled_only, IsOwnCall}
-use Rattle.kernel_core.proofs.HeldTold.{told_by, signal_keeps}
+use Rattle.kernel_invariant.proofs.HeldTold.{told_by, signal_keeps}
 use Rattle.kernel_core.proofs.kernel.Kernel.condvar_signal.Goals as goal
 use Rattle.kernel_core.proofs.kernel.Kernel.condvar_signal.Goals.{After-touch_told}
 

@@ -20,7 +20,7 @@ use Rattle.kernel_model.proofs.Valids.{release_valid, same_value}
 use Rattle.poll_set.proofs.PollReads.{poll_by_stage}
 use Rattle.kernel_model.specs.Done.{IsDone}
 use Rattle.kernel_core.proofs.Acts.{act_allowed, allowed_by, refused_by, stat_get_sets_nothing}
-use Rattle.kernel_core.proofs.Channels.{socket_does}
+use Rattle.kernel_invariant.proofs.Channels.{socket_does}
 use Rattle.kernel_core.proofs.Done.{done_as, replied}
 use Rattle.kernel_core.proofs.EntryCalls.{entries_does, first_is_named}
 use Rattle.kernel_core.proofs.Families.{all_named, answered_does, change_does, change_replaces, entries_on, file_on, offset_on, unbuilt_does, zeros_does}
@@ -388,5 +388,5 @@ socket_call-requires c = record { there = c.requires.there }
 pub random_get-requires : goal.random_get-requires
 random_get-requires c = record { there = c.requires.there }
 
-pub end_process-requires : goal.end_process-requires
-end_process-requires c = c.requires.there
+pub end_process-requires-clause-live : goal.end_process-requires-clause-live
+end_process-requires-clause-live c = c.requires.there

@@ -5,7 +5,7 @@ use Rattle.kernel_model.specs.Valid.{IsValid}
 use Rattle.kernel_model.proofs.Touches.{end_is, end_keeps}
 use Rattle.kernel_model.proofs.Steps.{end_valid}
 use Rattle.kernel_core.specs.contracts.kernel.Kernel.{the_view}
-use Rattle.kernel_core.proofs.HeldTimes.{all_held_at}
+use Rattle.kernel_invariant.proofs.HeldTimes.{all_held_at}
 use Rattle.kernel_core.proofs.kernel.Kernel.end.Goals as goal
 use Rattle.kernel_core.proofs.kernel.Kernel.end.Goals.{After-end_process}
 
@@ -18,7 +18,7 @@ returns-clause-end c = after (goal.at.returns-clause-end c).After-end_process
 
 pub returns-clause-valid : goal.returns-clause-valid
 returns-clause-valid c =
-    subst IsValid (sym (after c)) (end_valid c.args.self.now c.args.pid c.args.status (ap is_some c.requires.live) (subst IsValid c.self.view_is c.self.invariant.kept.valid))
+    subst IsValid (sym (after c)) (end_valid c.args.self.now c.args.pid c.args.status (ap is_some c.requires.live) c.requires.dead (subst IsValid c.self.view_is c.self.invariant.kept.valid))
 
 pub returns-clause-others : goal.returns-clause-others
 returns-clause-others c = λ q outside stays.

@@ -10,11 +10,11 @@ use Rattle.kernel_core.proofs.Done.{done_seen, lacked}
 use Rattle.kernel_parts.specs.Released.{state_by}
 use Rattle.kernel_core.specs.contracts.kernel.Kernel.{the_view}
 use Rattle.readiness_laws.specs.Watched.{looked_at}
-use Rattle.kernel_core.specs.Kernel.{AreHeld}
-use Rattle.kernel_core.specs.Readiness.{left_where_done}
-use Rattle.kernel_core.proofs.HeldChannels.{end_is_held, end_keeps}
+use Rattle.kernel_invariant.specs.Held.{AreHeld}
+use Rattle.kernel_invariant.specs.Readiness.{left_where_done}
+use Rattle.kernel_invariant.proofs.HeldChannels.{end_is_held, end_keeps}
 use Rattle.kernel_core.proofs.Released.{kept_released, released_is_held, released_to}
-use Rattle.kernel_core.proofs.Channels.{channels_put, end_going, end_nearly, end_sets}
+use Rattle.kernel_invariant.proofs.Channels.{channels_put, end_going, end_nearly, end_sets}
 use Rattle.kernel_core.proofs.kernel.Kernel.end_call.Goals as goal
 use Rattle.kernel_core.proofs.kernel.Kernel.end_call.Goals.{After-release}
 

@@ -6,11 +6,11 @@ use Rattle.kernel_model.specs.Release.{release}
 use Rattle.kernel_model.specs.State.{State, ProcessState, put_all}
 use Rattle.kernel_parts.specs.Keys.{key}
 use Rattle.readiness_laws.specs.Watched.{looked_at}
-use Rattle.kernel_core.specs.Kernel.{AreHeld, IsKept}
+use Rattle.kernel_invariant.specs.Held.{AreHeld, IsKept}
 use Rattle.kernel_core.specs.Threads.{is_last_in}
 use Rattle.kernel_core.specs.contracts.kernel.Kernel.{the_view}
-use Rattle.kernel_core.proofs.HeldEnds.{thread_end_is_held}
-use Rattle.kernel_core.proofs.Leaving.{with_process}
+use Rattle.kernel_invariant.proofs.HeldEnds.{thread_end_is_held}
+use Rattle.kernel_invariant.proofs.Leaving.{with_process}
 use Rattle.kernel_core.proofs.OwnCalls.{left_alone, left_last, own_kept, own_released, without_only}
 use Rattle.kernel_core.proofs.kernel.Kernel.end_thread.Goals as goal
 use Rattle.kernel_core.proofs.kernel.Kernel.end_thread.Goals.{After-end_thread}

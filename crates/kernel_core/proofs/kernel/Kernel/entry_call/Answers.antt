@@ -15,15 +15,15 @@ use Rattle.kernel_model.specs.State.{ProcessState, State, Table, Tree, put_all, 
 use Rattle.kernel_model.specs.Valid.{IsValid}
 use Rattle.kernel_model.proofs.Valids.{release_restores}
 use Rattle.readiness_laws.specs.Watched.{looked_at}
-use Rattle.kernel_core.specs.Kernel.{AreHeld, IsKept}
+use Rattle.kernel_invariant.specs.Held.{AreHeld, IsKept}
 use Rattle.kernel_core.specs.Entries.{entry_outcome, entries_come}
 use Rattle.kernel_parts.specs.Entries.{IsLeftBy, kind_with, open_at, open_in}
 use Rattle.kernel_core.specs.contracts.kernel.Kernel.{the_view}
 use Rattle.kernel_core.proofs.Done.{done_as, done_at, lacked}
 use Rattle.kernel_core.proofs.EntryCalls.{entries_after, entries_answer, entries_take_memory, entries_tree, entries_valid, open_there}
 use Rattle.kernel_parts.proofs.Forgetting.{used_still}
-use Rattle.kernel_core.proofs.HeldNew.{same_threads_are_held}
-use Rattle.kernel_core.proofs.HeldSame.{named_threads}
+use Rattle.kernel_invariant.proofs.HeldNew.{same_threads_are_held}
+use Rattle.kernel_invariant.proofs.HeldSame.{named_threads}
 use Rattle.kernel_core.proofs.Opens.{IsFound, open_absent, open_found}
 use Rattle.kernel_core.proofs.kernel.Kernel.entry_call.Goals as goal
 use Rattle.kernel_core.proofs.kernel.Kernel.entry_call.Goals.{In_err-done, In_ok-done}

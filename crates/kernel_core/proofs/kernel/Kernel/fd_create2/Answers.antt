@@ -17,19 +17,18 @@ use Rattle.kernel_model.specs.Release.{carriers, holders, release}
 use Rattle.kernel_model.specs.Reply.{success}
 use Rattle.kernel_model.specs.State.{ProcessState, State, Table, counts_in, put_all}
 use Rattle.kernel_model.specs.Valid.{IsNearlyValid}
-use Rattle.kernel_model.proofs.Valids.{some_again}
 use Rattle.kernel_core.specs.Ends.{IsPair}
 use Rattle.kernel_core.specs.contracts.kernel.Kernel.{the_view}
 use Rattle.kernel_parts.specs.Touching.{HasEach, spread_if}
 use Rattle.readiness_laws.specs.Watched.{looked_at}
-use Rattle.kernel_core.specs.Kernel.{AreHeld}
-use Rattle.kernel_core.specs.Readiness.{is_concerned_in}
-use Rattle.kernel_core.proofs.HeldNew.{pair_is_held}
+use Rattle.kernel_invariant.specs.Held.{AreHeld}
+use Rattle.kernel_invariant.specs.Readiness.{is_concerned_in}
+use Rattle.kernel_invariant.proofs.HeldNew.{pair_is_held}
 use Rattle.kernel_core.proofs.Released.{kept_released, parts, released_is_held, released_to}
-use Rattle.kernel_core.proofs.Channels.{AreCounted, moved_counts}
+use Rattle.kernel_invariant.proofs.Channels.{AreCounted, moved_counts}
 use Rattle.kernel_core.proofs.Done.{done_at, lacked, replied}
-use Rattle.kernel_core.proofs.EndCalls.{create_is, create_nearly, numbers_can, pair_fits, pair_free, pair_going, pair_new, pair_put, pair_small, pair_table, pair_used, with_pair}
-use Rattle.kernel_core.proofs.Kept.{kept_again, small_set}
+use Rattle.kernel_invariant.proofs.EndCalls.{create_is, create_nearly, numbers_can, pair_fits, pair_free, pair_going, pair_new, pair_put, pair_small, pair_table, pair_used, with_pair}
+use Rattle.kernel_invariant.proofs.Kept.{kept_again, small_set}
 use Rattle.kernel_core.proofs.OpenCalls.{planned_before}
 use Rattle.kernel_core.proofs.kernel.Kernel.fd_create2.Goals as goal
 use Rattle.kernel_core.proofs.kernel.Kernel.fd_create2.Goals.{After-get_mut-table, After-put_pair, After-release, In_err-put_pair}
@@ -186,15 +185,6 @@ make-requires d =
 
 pub release-requires-clause-counted : goal.release-requires-clause-counted
 release-requires-clause-counted d = counted (goal.at.release-requires-clause-counted d).After-put_pair
-
-pub release-requires-clause-tables : goal.release-requires-clause-tables
-release-requires-clause-tables c = λ q.
-    some_again c.self.inside.tables c.from-p.result c.get_mut-table.result.now c.put_pair.new.table q (sym c.get_mut-table.ensures.value)
-    ∙ c.self.invariant.kept.valid.nearly.tables q
-
-pub release-requires-clause-processes : goal.release-requires-clause-processes
-release-requires-clause-processes c = λ q.
-    some_again c.self.inside.processes c.from-p.result c.get_mut.result.now c.make.new.self q (sym c.get_mut.ensures.value) ∙ c.self.invariant.kept.valid.nearly.owns q
 
 pub release-requires-clause-used : goal.release-requires-clause-used
 release-requires-clause-used d = λ n some.

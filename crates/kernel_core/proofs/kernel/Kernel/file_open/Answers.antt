@@ -20,12 +20,12 @@ use Rattle.kernel_core.specs.Opening.{IsOpening, open_outcome}
 use Rattle.kernel_core.specs.contracts.kernel.Kernel.{the_view}
 use Rattle.kernel_parts.specs.Touching.{HasEach, spread_if}
 use Rattle.readiness_laws.specs.Watched.{looked_at}
-use Rattle.kernel_core.specs.Kernel.{AreHeld}
-use Rattle.kernel_core.specs.Readiness.{is_concerned_in}
-use Rattle.kernel_core.proofs.HeldNew.{opening_is_held}
-use Rattle.kernel_core.proofs.Channels.{table_counts}
+use Rattle.kernel_invariant.specs.Held.{AreHeld}
+use Rattle.kernel_invariant.specs.Readiness.{is_concerned_in}
+use Rattle.kernel_invariant.proofs.HeldNew.{opening_is_held}
+use Rattle.kernel_invariant.proofs.Channels.{table_counts}
 use Rattle.kernel_core.proofs.Done.{done_at, lacked, replied}
-use Rattle.kernel_core.proofs.Kept.{kept_again, small_set}
+use Rattle.kernel_invariant.proofs.Kept.{kept_again, small_set}
 use Rattle.kernel_core.proofs.OpenCalls.{none_holds_it, node_is_new, open_answer, open_fits, open_is_new, open_keeps, open_released, open_valid, planned_before}
 use Rattle.kernel_core.proofs.kernel.Kernel.file_open.Goals as goal
 use Rattle.kernel_core.proofs.kernel.Kernel.file_open.Goals.{After-get_mut-table, In_err-put_opening, After-success}

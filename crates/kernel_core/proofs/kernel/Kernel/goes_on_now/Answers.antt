@@ -5,7 +5,7 @@ use Rattle.kernel_model.specs.Waits.{HasDeadlines}
 use Rattle.kernel_model.specs.Wakes.{is_ready}
 use Rattle.wait_set.specs.Waits.{mark_of}
 use Rattle.kernel_core.specs.contracts.kernel.Kernel.{the_view}
-use Rattle.kernel_core.proofs.HeldTests.{marked_is}
+use Rattle.kernel_invariant.proofs.HeldTests.{marked_is}
 use Rattle.kernel_core.proofs.kernel.Kernel.goes_on_now.Goals as goal
 
 pub returns-in-Some : goal.returns-in-Some

@@ -5,10 +5,10 @@ use Rattle.kernel_model.specs.Valid.{IsValid}
 use Rattle.kernel_model.specs.Waits.{HasDeadlines}
 use Rattle.kernel_model.specs.Wakes.{MayJump, NoneReady}
 use Rattle.kernel_model.proofs.Tests.{none_is_no, not_true}
-use Rattle.kernel_core.specs.Waiting.{NoneRuns}
+use Rattle.kernel_invariant.specs.Waiting.{NoneRuns}
 use Rattle.kernel_core.specs.contracts.kernel.Kernel.{the_view}
-use Rattle.kernel_core.proofs.HeldRunners.{jumps_to}
-use Rattle.kernel_core.proofs.HeldTimes.{all_held_at}
+use Rattle.kernel_invariant.proofs.HeldRunners.{jumps_to}
+use Rattle.kernel_invariant.proofs.HeldTimes.{all_held_at}
 use Rattle.kernel_core.proofs.kernel.Kernel.idle.Goals as goal
 use Rattle.kernel_core.proofs.kernel.Kernel.idle.Goals.{After-touch_time, then-soonest-until, else-soonest-until}
 

@@ -2,9 +2,9 @@ use Rattle.std.proofs.Common.{◌≡◌, false, not, sym, ap, subst, ◌∙◌}
 use Rattle.std.specs.Prelude.{nat_lt}
 use Rattle.wait_set.specs.Waits.{counted, is_running}
 use Rattle.kernel_model.proofs.Tests.{not_true}
-use Rattle.kernel_core.specs.Waiting.{NoneRuns}
+use Rattle.kernel_invariant.specs.Waiting.{NoneRuns}
 use Rattle.kernel_core.specs.contracts.kernel.Kernel.{the_view}
-use Rattle.kernel_core.proofs.HeldRunners.{all_wait_where, none_counted, ready_told}
+use Rattle.kernel_invariant.proofs.HeldRunners.{all_wait_where, none_counted, ready_told}
 use Rattle.kernel_core.proofs.kernel.Kernel.is_quiet.Goals as goal
 
 pub returns-then-not-has_running-clause-exact : goal.returns-then-not-has_running-clause-exact

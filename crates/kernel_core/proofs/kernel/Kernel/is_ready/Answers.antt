@@ -3,7 +3,7 @@ use Rattle.std.specs.Prelude.{option_copied}
 use Rattle.std.specs.FinMap.{get}
 use Rattle.kernel_model.specs.State.{State, Table}
 use Rattle.kernel_parts.specs.Waiting.{goes_on}
-use Rattle.kernel_core.proofs.Waiters.{looked_at, ready_by}
+use Rattle.kernel_invariant.proofs.Waiters.{looked_at, ready_by}
 use Rattle.kernel_core.proofs.kernel.Kernel.is_ready.Goals as goal
 
 pub returns-in-Some-Waits : goal.returns-in-Some-Waits

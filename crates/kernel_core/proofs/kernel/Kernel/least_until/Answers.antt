@@ -5,7 +5,7 @@ use Rattle.kernel_model.specs.State.{State}
 use Rattle.kernel_model.specs.Waits.{HasDeadlines}
 use Rattle.kernel_parts.proofs.Walks.{IsPast}
 use Rattle.kernel_core.specs.contracts.kernel.Kernel.{the_view}
-use Rattle.kernel_core.proofs.HeldDeadlines.{least_of, until_all, until_at, until_past, IsLeastUntil}
+use Rattle.kernel_invariant.proofs.HeldDeadlines.{least_of, until_all, until_at, until_past, IsLeastUntil}
 use Rattle.kernel_core.proofs.kernel.Kernel.least_until.Goals as goal
 
 pub loop-key-preserved : goal.loop-key-preserved

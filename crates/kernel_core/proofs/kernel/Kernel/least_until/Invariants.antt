@@ -1,6 +1,6 @@
 use Rattle.std.specs.Prelude.{◌-◌, ◌^◌}
 use Rattle.kernel_parts.proofs.Walks.{passed, IsPast}
-use Rattle.kernel_core.proofs.HeldDeadlines.{until_at, IsLeastUntil}
+use Rattle.kernel_invariant.proofs.HeldDeadlines.{until_at, IsLeastUntil}
 use Rattle.kernel_core.proofs.kernel.Kernel.least_until.Given as goal
 
 -- it is the earliest moment of the threads up to the last one

@@ -10,7 +10,7 @@ use Rattle.kernel_model.specs.Waits.{may_wait, waiting, with_thread}
 use Rattle.kernel_model.specs.Wakes.{LacksNoMemory}
 use Rattle.kernel_core.specs.contracts.kernel.Kernel.{the_view}
 use Rattle.kernel_core.proofs.Asking.{lock_may, lock_parks, lock_refused, lock_replies, lock_waits}
-use Rattle.kernel_core.proofs.HeldTimes.{all_held_at}
+use Rattle.kernel_invariant.proofs.HeldTimes.{all_held_at}
 use Rattle.kernel_core.proofs.kernel.Kernel.lock_poll.Goals as goal
 use Rattle.kernel_core.proofs.kernel.Kernel.lock_poll.Goals.{In-Parked}
 

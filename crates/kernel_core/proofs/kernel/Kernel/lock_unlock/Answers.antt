@@ -8,7 +8,7 @@ use Rattle.kernel_model.proofs.Locks.{KeepsEach}
 use Rattle.kernel_parts.specs.Touching.{HasEach, told_entry}
 use Rattle.kernel_core.specs.contracts.kernel.Kernel.{the_view}
 use Rattle.kernel_core.proofs.OwnCalls.{own_call, own_call_done, own_call_kept, unlocked_only, IsOwnCall}
-use Rattle.kernel_core.proofs.HeldTold.{told_by, unlock_keeps}
+use Rattle.kernel_invariant.proofs.HeldTold.{told_by, unlock_keeps}
 use Rattle.kernel_core.proofs.kernel.Kernel.lock_unlock.Goals as goal
 use Rattle.kernel_core.proofs.kernel.Kernel.lock_unlock.Goals.{After-touch_told}
 

@@ -5,7 +5,7 @@ use Rattle.fd_table.specs.Table.{IsFull, IsLowestFree, IsTable}
 use Rattle.kernel_model.specs.Families.DescriptorCalls.{lowest_free}
 use Rattle.kernel_model.specs.State.{State, Table}
 use Rattle.kernel_parts.proofs.Lowest.{full_is_none, lowest_is}
-use Rattle.kernel_core.specs.Readiness.{number_given}
+use Rattle.kernel_invariant.specs.Readiness.{number_given}
 use Rattle.kernel_core.proofs.kernel.Kernel.lowest_free.Goals as goal
 
 lowest_found : (table : Table) (o : Option ℕ) → IsTable table → IfSome o (IsLowestFree table) → (IsNone o → IsFull table) → o ≡ lowest_free table

@@ -10,7 +10,7 @@ use Rattle.kernel_model.proofs.Tests.{none_is_no, not_true}
 use Rattle.kernel_model.proofs.Valids.{same_value}
 use Rattle.kernel_parts.proofs.Lowest.{full_is_none, lowest_is}
 use Rattle.kernel_core.specs.Waiting.{caller}
-use Rattle.kernel_core.proofs.ForkCalls.{MakesNone, fork_fails, fork_none, fork_succeeds}
+use Rattle.kernel_invariant.proofs.ForkCalls.{MakesNone, fork_fails, fork_none, fork_succeeds}
 use Rattle.kernel_core.proofs.kernel.Kernel.may_fork.Goals as goal
 use Rattle.kernel_core.proofs.kernel.Kernel.may_fork.Goals.{In-Some-Some}
 

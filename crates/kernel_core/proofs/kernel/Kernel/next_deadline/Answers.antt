@@ -3,7 +3,7 @@ use Rattle.kernel_model.specs.Deadlines.{least_deadline}
 use Rattle.kernel_model.specs.State.{State}
 use Rattle.kernel_model.specs.Waits.{HasDeadlines}
 use Rattle.kernel_core.specs.contracts.kernel.Kernel.{the_view}
-use Rattle.kernel_core.proofs.HeldDeadlines.{first_moment}
+use Rattle.kernel_invariant.proofs.HeldDeadlines.{first_moment}
 use Rattle.kernel_core.proofs.kernel.Kernel.next_deadline.Goals as goal
 
 pub returns-in-None : goal.returns-in-None

@@ -19,12 +19,12 @@ use Rattle.kernel_model.specs.Valid.{IsValid}
 use Rattle.kernel_parts.specs.StreamCalls.{stream_outcome}
 use Rattle.kernel_model.specs.Done.{IsAnswered, IsDone}
 use Rattle.readiness_laws.specs.Watched.{looked_at}
-use Rattle.kernel_core.specs.Kernel.{AreHeld}
+use Rattle.kernel_invariant.specs.Held.{AreHeld}
 use Rattle.kernel_core.specs.OffsetCalls.{offset_outcome}
 use Rattle.kernel_core.specs.contracts.kernel.Kernel.{the_view}
 use Rattle.kernel_core.proofs.Done.{done_as, done_at, done_seen, lacked, replied_seen}
 use Rattle.kernel_core.proofs.FileCalls.{there_behind, with_tree}
-use Rattle.kernel_core.proofs.HeldSame.{moved_open_held}
+use Rattle.kernel_invariant.proofs.HeldSame.{moved_open_held}
 use Rattle.kernel_core.proofs.OffsetCalls.{IsNoStream, absent_comes, end_outcome_is, left_valid, offset_done, offset_looked, offset_outcome_is, offset_same, offset_valid, stream_done, stream_outcome_is, with_terms}
 use Rattle.kernel_core.proofs.Opens.{IsFound, open_absent, open_found}
 use Rattle.kernel_core.proofs.kernel.Kernel.offset_call.Goals as goal

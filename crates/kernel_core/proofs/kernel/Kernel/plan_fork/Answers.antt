@@ -9,7 +9,7 @@ use Rattle.kernel_model.specs.State.{State}
 use Rattle.kernel_model.proofs.Valids.{same_value}
 use Rattle.process_calls.specs.Forks.{IsPlan}
 use Rattle.kernel_core.specs.contracts.kernel.Kernel.{the_view}
-use Rattle.kernel_core.proofs.ForkCalls.{child_fits}
+use Rattle.kernel_invariant.proofs.ForkCalls.{child_fits}
 use Rattle.kernel_core.proofs.kernel.Kernel.plan_fork.Goals as goal
 use Rattle.kernel_core.proofs.kernel.Kernel.plan_fork.Goals.{In-Some-Some}
 

@@ -1,7 +1,7 @@
 use Rattle.std.proofs.Common.{◌≡◌, ℕ, ◌+◌, ◌-◌, None, Some, refl, sym, ap, subst, ◌∙◌}
 use Rattle.std.specs.FinMap.{get}
 use Rattle.abi_base.specs.declared.errno.Errno.TheVariants.{Badf}
-use Rattle.file_calls.specs.declared.path_fault.PathFault.TheVariants as path_fault
+use Rattle.file_calls.specs.declared.paths.PathFault.TheVariants as path_fault
 use Rattle.kernel_model.specs.Families.Numbers.{can_number, next_object}
 use Rattle.kernel_model.specs.Families.Opening.{opened_descriptor}
 use Rattle.kernel_model.specs.Outcome.{replies}

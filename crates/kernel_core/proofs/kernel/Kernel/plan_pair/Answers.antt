@@ -14,7 +14,7 @@ use Rattle.kernel_parts.proofs.Lowest.{full_is_none}
 use Rattle.kernel_parts.proofs.Naming.{numbered_is, unnumbered}
 use Rattle.kernel_core.specs.Ends.{IsPair}
 use Rattle.kernel_core.specs.contracts.kernel.Kernel.{the_view}
-use Rattle.kernel_core.proofs.EndCalls.{create_filled, create_full, create_unnumbered, first_of, numbered_pair, threadless, unnumbered_pair}
+use Rattle.kernel_invariant.proofs.EndCalls.{create_filled, create_full, create_unnumbered, first_of, numbered_pair, threadless, unnumbered_pair}
 use Rattle.kernel_core.proofs.kernel.Kernel.plan_pair.Goals as goal
 use Rattle.kernel_core.proofs.kernel.Kernel.plan_pair.Goals.{In-Some-Some}
 

@@ -12,7 +12,7 @@ use Rattle.kernel_model.proofs.Calls.{proper}
 use Rattle.kernel_model.proofs.Valids.{same_value}
 use Rattle.kernel_core.specs.Programs.{Begins, begun_updates, exec_outcome}
 use Rattle.kernel_core.proofs.Done.{answered_as, lacked, replied}
-use Rattle.kernel_core.proofs.ForkCalls.{table_there}
+use Rattle.kernel_invariant.proofs.ForkCalls.{table_there}
 use Rattle.kernel_core.proofs.kernel.Kernel.proc_exec.Goals as goal
 use Rattle.kernel_core.proofs.kernel.Kernel.proc_exec.Goals.{In-Ok}
 

@@ -7,7 +7,7 @@ use Rattle.kernel_model.specs.Outcome.{IsSuccess, Outcome}
 use Rattle.kernel_model.specs.Release.{release}
 use Rattle.kernel_model.specs.State.{put_all}
 use Rattle.kernel_core.proofs.Done.{answered_as, lacked, replied}
-use Rattle.kernel_core.proofs.ForkCalls.{child_planned, fork_is, own_there, table_there}
+use Rattle.kernel_invariant.proofs.ForkCalls.{child_planned, fork_is, own_there, table_there}
 use Rattle.kernel_core.proofs.kernel.Kernel.proc_fork.Goals as goal
 
 pub returns-in-Err : goal.returns-in-Err

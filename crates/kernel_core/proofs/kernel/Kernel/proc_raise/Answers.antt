@@ -1,5 +1,4 @@
 use Rattle.std.proofs.Common.{◌≡◌, sym, ap, ◌∙◌}
-use Rattle.std.specs.FinMap.{get}
 use Rattle.abi_types.specs.declared.reply.Answer.TheVariants as answer
 use Rattle.kernel_model.specs.Families.ProcessCalls.{raise_of, signal_of}
 use Rattle.kernel_model.specs.Outcome.{replies}
@@ -12,9 +11,9 @@ use Rattle.kernel_core.proofs.kernel.Kernel.proc_raise.Goals.{After-effect_of}
 
 -- what the call comes to where the signal does this
 does : (c : After-effect_of) (done : Raised) → c.effect_of.result ≡ done
-    → raise_of c.args.who.now.pid (get c.args.self.now.processes c.args.who.now.pid) (signal_of c.args.signal)
-    ≡ comes c.args.who.now.pid (get c.args.self.now.processes c.args.who.now.pid) done
-does c done is = raise_is c.args.who.now.pid (get c.args.self.now.processes c.args.who.now.pid) (signal_of c.args.signal) done (sym is ∙ c.effect_of.ensures)
+    → raise_of c.args.who.now.pid (signal_of c.args.signal)
+    ≡ comes c.args.who.now.pid done
+does c done is = raise_is c.args.who.now.pid (signal_of c.args.signal) done (sym is ∙ c.effect_of.ensures)
 
 pub returns-in-Unknown : goal.returns-in-Unknown
 returns-in-Unknown d =

@@ -3,8 +3,8 @@ use Rattle.std.specs.FinMap.{insert}
 use Rattle.kernel_model.specs.Families.ClockCalls.{drawn_by}
 use Rattle.kernel_model.specs.State.{ProcessState}
 use Rattle.kernel_core.specs.contracts.kernel.Kernel.{the_view}
-use Rattle.kernel_core.proofs.HeldNew.{same_threads_are_held}
-use Rattle.kernel_core.proofs.HeldSame.{drawn_left}
+use Rattle.kernel_invariant.proofs.HeldNew.{same_threads_are_held}
+use Rattle.kernel_invariant.proofs.HeldSame.{drawn_left}
 use Rattle.kernel_core.proofs.OwnCalls.{drawn_only, own_call, own_call_done, own_call_kept, IsOwnCall}
 use Rattle.kernel_core.proofs.kernel.Kernel.random_get.Goals as goal
 use Rattle.kernel_core.proofs.kernel.Kernel.random_get.Goals.{After-draw}

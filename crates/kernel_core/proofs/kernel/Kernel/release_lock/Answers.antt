@@ -6,11 +6,11 @@ use Rattle.kernel_model.specs.State.{State, ProcessState, set_process}
 use Rattle.kernel_model.proofs.Tests.{same_some}
 use Rattle.kernel_model.proofs.Locks.{KeepsEach, released_keeps}
 use Rattle.kernel_parts.specs.Touching.{HasEach, told_entry}
-use Rattle.kernel_core.specs.Kernel.{IsKept}
+use Rattle.kernel_invariant.specs.Held.{IsKept}
 use Rattle.kernel_core.specs.contracts.kernel.Kernel.{the_view}
-use Rattle.kernel_core.proofs.Leaving.{with_process}
+use Rattle.kernel_invariant.proofs.Leaving.{with_process}
 use Rattle.kernel_core.proofs.OwnCalls.{own_kept, unlocked_may}
-use Rattle.kernel_core.proofs.HeldTold.{told_by}
+use Rattle.kernel_invariant.proofs.HeldTold.{told_by}
 use Rattle.kernel_core.proofs.kernel.Kernel.release_lock.Goals as goal
 use Rattle.kernel_core.proofs.kernel.Kernel.release_lock.Goals.{After-touch_told}
 

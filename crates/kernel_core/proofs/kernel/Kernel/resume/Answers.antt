@@ -7,11 +7,11 @@ use Rattle.kernel_model.proofs.Tests.{none_of}
 use Rattle.kernel_parts.specs.Touching.{HasEach}
 use Rattle.readiness_laws.specs.Watched.{looked_at}
 use Rattle.wait_set.specs.Waits.{running}
-use Rattle.kernel_core.specs.Kernel.{AreHeld, IsKept}
-use Rattle.kernel_core.specs.Readiness.{at_key}
+use Rattle.kernel_invariant.specs.Held.{AreHeld, IsKept}
+use Rattle.kernel_invariant.specs.Readiness.{at_key}
 use Rattle.kernel_core.specs.contracts.kernel.Kernel.{the_view}
-use Rattle.kernel_core.proofs.HeldStanding.{ran_is_held}
-use Rattle.kernel_core.proofs.Parks.{after_kept, set_after, set_process_none}
+use Rattle.kernel_invariant.proofs.HeldStanding.{ran_is_held}
+use Rattle.kernel_invariant.proofs.Parks.{after_kept, set_after, set_process_none}
 use Rattle.kernel_core.proofs.kernel.Kernel.resume.Goals as goal
 use Rattle.kernel_core.proofs.kernel.Kernel.resume.Goals.{After-run_entry}
 

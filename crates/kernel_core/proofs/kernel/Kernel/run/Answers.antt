@@ -12,10 +12,10 @@ use Rattle.kernel_model.specs.View.{whole}
 use Rattle.kernel_model.specs.Done.{IsAnswered}
 use Rattle.kernel_core.specs.contracts.kernel.Kernel.{the_view}
 use Rattle.kernel_core.proofs.Acts.{done_is_step, lack_is_step}
-use Rattle.kernel_core.proofs.Parks.{park_lacks_is_step, parked_is_step, parked_left, parks_may}
+use Rattle.kernel_invariant.proofs.Parks.{park_lacks_is_step, parked_is_step, parked_left, parks_may}
 use Rattle.readiness_laws.proofs.Beginning.{parked_unready}
 use Rattle.readiness_laws.proofs.Running.{thread_lives}
-use Rattle.kernel_core.proofs.HeldTimes.{all_held_at}
+use Rattle.kernel_invariant.proofs.HeldTimes.{all_held_at}
 use Rattle.kernel_core.proofs.kernel.Kernel.run.Goals as goal
 use Rattle.kernel_core.proofs.kernel.Kernel.run.Goals.{In-Ok-Parked}
 

@@ -4,7 +4,7 @@ use Rattle.kernel_model.specs.State.{State}
 use Rattle.kernel_model.specs.Waits.{HasDeadlines}
 use Rattle.readiness_laws.specs.NextReady.{thread_at, IsNextReady}
 use Rattle.kernel_core.specs.contracts.kernel.Kernel.{the_view}
-use Rattle.kernel_core.proofs.HeldTests.{next_of_tested, tested_is_held}
+use Rattle.kernel_invariant.proofs.HeldTests.{next_of_tested, tested_is_held}
 use Rattle.kernel_core.proofs.kernel.Kernel.settle_next.Goals as goal
 
 pub invariant_of-self : goal.invariant_of-self

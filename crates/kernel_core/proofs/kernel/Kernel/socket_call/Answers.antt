@@ -11,22 +11,21 @@ use Rattle.kernel_model.specs.Calls.{takes_memory}
 use Rattle.kernel_model.specs.Outcome.{replies}
 use Rattle.kernel_model.specs.Release.{release}
 use Rattle.kernel_model.specs.State.{State, Table}
-use Rattle.kernel_model.proofs.Valids.{some_again}
 use Rattle.kernel_parts.specs.Entries.{open_in, open_with}
 use Rattle.kernel_parts.specs.Released.{state_by}
 use Rattle.kernel_parts.specs.Waiting.{fd_of_socket, socket_at}
 use Rattle.kernel_model.specs.Done.{IsDone}
-use Rattle.kernel_core.specs.Sockets.{socket_on}
+use Rattle.kernel_invariant.specs.Sockets.{socket_on}
 use Rattle.kernel_core.specs.contracts.kernel.Kernel.{the_view}
 use Rattle.readiness_laws.specs.Watched.{looked_at}
-use Rattle.kernel_core.specs.Kernel.{AreHeld}
-use Rattle.kernel_core.specs.Readiness.{has_received, left_where_done}
-use Rattle.kernel_core.proofs.HeldChannels.{end_is_held, socket_keeps}
-use Rattle.kernel_core.proofs.HeldTables.{received_is_held}
+use Rattle.kernel_invariant.specs.Held.{AreHeld}
+use Rattle.kernel_invariant.specs.Readiness.{has_received, left_where_done}
+use Rattle.kernel_invariant.proofs.HeldChannels.{end_is_held, socket_keeps}
+use Rattle.kernel_invariant.proofs.HeldTables.{received_is_held}
 use Rattle.kernel_core.proofs.Released.{kept_released, released_is_held, released_to}
-use Rattle.kernel_core.proofs.Channels.{covered_by, moved_counts, socket_found, socket_going, socket_left_nearly, socket_put, socket_small}
+use Rattle.kernel_invariant.proofs.Channels.{covered_by, moved_counts, socket_found, socket_going, socket_left_nearly, socket_put, socket_small}
 use Rattle.kernel_core.proofs.Done.{done_as, done_at, lacked, replied_seen}
-use Rattle.kernel_core.proofs.Kept.{kept_again, small_set}
+use Rattle.kernel_invariant.proofs.Kept.{kept_again, small_set}
 use Rattle.kernel_core.proofs.Opens.{IsFound, found_kind, open_absent, open_found}
 use Rattle.kernel_core.proofs.kernel.Kernel.socket_call.Goals as goal
 use Rattle.kernel_core.proofs.kernel.Kernel.socket_call.Goals.{In-Some, In_err-answer, After-get_mut-table, After-release}
@@ -116,11 +115,6 @@ pub release-requires-clause-counted : goal.release-requires-clause-counted
 release-requires-clause-counted c =
     moved_counts c.self.inside.tables c.from.result c.get_mut-table.result.now (sym c.get_mut-table.ensures.value) c.self.inside.channels c.self.inside.objects.counts
     c.self.invariant.kept.counted c.on_socket.new.table c.on_socket.new.channels c.on_socket.new.objects.counts c.on_socket.ensures.counts
-
-pub release-requires-clause-tables : goal.release-requires-clause-tables
-release-requires-clause-tables c = λ q.
-    some_again c.self.inside.tables c.from.result c.get_mut-table.result.now c.on_socket.new.table q (sym c.get_mut-table.ensures.value)
-    ∙ c.self.invariant.kept.valid.nearly.tables q
 
 pub release-requires-clause-going : goal.release-requires-clause-going
 release-requires-clause-going d =

@@ -4,9 +4,9 @@ use Rattle.kernel_model.specs.State.{State}
 use Rattle.kernel_model.specs.Waits.{HasDeadlines}
 use Rattle.kernel_model.specs.Wakes.{IsStalled, NoneReady}
 use Rattle.kernel_model.proofs.Tests.{not_true}
-use Rattle.kernel_core.specs.Waiting.{NoneRuns}
+use Rattle.kernel_invariant.specs.Waiting.{NoneRuns}
 use Rattle.kernel_core.specs.contracts.kernel.Kernel.{the_view}
-use Rattle.kernel_core.proofs.HeldRunners.{not_stalled, stall_told}
+use Rattle.kernel_invariant.proofs.HeldRunners.{not_stalled, stall_told}
 use Rattle.kernel_core.proofs.kernel.Kernel.stalled.Goals as goal
 
 pub returns-then-not-is_empty-clause-exact : goal.returns-then-not-is_empty-clause-exact

@@ -11,8 +11,8 @@ use Rattle.kernel_model.proofs.Starts.{start_valid}
 use Rattle.kernel_parts.specs.Keys.{key}
 use Rattle.readiness_laws.specs.Watched.{looked_at}
 use Rattle.wait_set.specs.Waits.{fresh}
-use Rattle.kernel_core.specs.Kernel.{AreHeld}
-use Rattle.kernel_core.proofs.HeldStanding.{started_is_held}
+use Rattle.kernel_invariant.specs.Held.{AreHeld}
+use Rattle.kernel_invariant.proofs.HeldStanding.{started_is_held}
 use Rattle.kernel_core.proofs.Starts.{start_kept}
 use Rattle.kernel_core.proofs.kernel.Kernel.start.Goals as goal
 use Rattle.kernel_core.proofs.kernel.Kernel.start.Goals.{In_ok-first_waits}

@@ -6,8 +6,8 @@ use Rattle.kernel_model.specs.Families.ProcessCalls.{made_in}
 use Rattle.kernel_model.specs.Done.{IsDone}
 use Rattle.kernel_core.specs.contracts.kernel.Kernel.{the_view}
 use Rattle.readiness_laws.specs.Watched.{looked_at}
-use Rattle.kernel_core.specs.Kernel.{AreHeld}
-use Rattle.kernel_core.proofs.HeldBirths.{made_is_held}
+use Rattle.kernel_invariant.specs.Held.{AreHeld}
+use Rattle.kernel_invariant.proofs.HeldBirths.{made_is_held}
 use Rattle.kernel_core.proofs.OwnCalls.{created_only, own_call, own_call_done, own_call_kept, IsOwnCall}
 use Rattle.kernel_core.proofs.kernel.Kernel.thread_create.Goals as goal
 use Rattle.kernel_core.proofs.kernel.Kernel.thread_create.Goals.{After-make_thread}

@@ -1,4 +1,4 @@
-use Rattle.std.proofs.Common.{◌≡◌, None, Some, is_some, sym, ap, subst, ◌∙◌}
+use Rattle.std.proofs.Common.{◌≡◌, None, Some, sym, ap, subst, ◌∙◌}
 use Rattle.std.specs.FinMap.{get}
 use Rattle.maps.specs.Maps.{get-insert-same}
 use Rattle.abi_types.specs.declared.reply.Answer.TheVariants as answer
@@ -7,11 +7,11 @@ use Rattle.kernel_model.specs.Families.LockCalls.{writes_word}
 use Rattle.kernel_model.specs.Families.Locks.{release_of, released_word, unlocked_own, with_threads}
 use Rattle.kernel_model.specs.Families.ProcessCalls.{left_in, left_updates, left_with}
 use Rattle.kernel_model.specs.Outcome.{replies}
-use Rattle.kernel_model.specs.Release.{release}
+use Rattle.kernel_model.specs.Release.{lives, release}
 use Rattle.kernel_model.specs.State.{State, ProcessState, put_all}
 use Rattle.kernel_model.specs.Done.{IsAnswered}
 use Rattle.kernel_core.proofs.Done.{answered_as, replied}
-use Rattle.kernel_core.proofs.Leaving.{process_again, with_process}
+use Rattle.kernel_invariant.proofs.Leaving.{process_again, with_process}
 use Rattle.kernel_core.proofs.OwnCalls.{left_again, made, refused_same}
 use Rattle.kernel_core.proofs.kernel.Kernel.thread_exit.Goals as goal
 use Rattle.kernel_core.proofs.kernel.Kernel.thread_exit.Goals.{After-release_lock}
@@ -43,7 +43,7 @@ pub end_thread-requires : goal.end_thread-requires
 end_thread-requires d =
     let c = (goal.at.end_thread-requires d).After-release_lock in
     let own = owned c in
-    ap (λ (X : State). is_some (get X.statuses c.args.who.now.pid)) (c.release_lock.ensures own.0 own.1).1 ∙ c.requires.there
+    ap (λ (X : State). lives (get X.statuses c.args.who.now.pid)) (c.release_lock.ensures own.0 own.1).1 ∙ c.requires.there
 
 pub returns : goal.returns
 returns d =

@@ -18,12 +18,12 @@ use Rattle.kernel_model.specs.Waits.{with_thread, WaitsIn}
 use Rattle.kernel_model.specs.Wakes.{IsWake, LacksNoMemory}
 use Rattle.kernel_model.proofs.Steps.{step_keeps_valid}
 use Rattle.kernel_model.proofs.Waking.{resumed_runs, wake_ends_wait, wake_others_stay}
-use Rattle.kernel_core.specs.Waiting.{waiter}
+use Rattle.kernel_invariant.specs.Waiting.{waiter}
 use Rattle.kernel_core.specs.contracts.kernel.Kernel.{the_view}
 use Rattle.kernel_core.proofs.Asking.{queues_ahead, same_stage}
-use Rattle.kernel_core.proofs.Parks.{same_kept, waits_in_kept}
+use Rattle.kernel_invariant.proofs.Parks.{same_kept, waits_in_kept}
 use Rattle.kernel_core.proofs.Steps.{step_refused}
-use Rattle.kernel_core.proofs.HeldTimes.{all_held_at}
+use Rattle.kernel_invariant.proofs.HeldTimes.{all_held_at}
 use Rattle.kernel_core.proofs.kernel.Kernel.wake.Goals as goal
 use Rattle.kernel_core.proofs.kernel.Kernel.wake.Goals.{After-go_on-answer}
 

@@ -1,26 +1,11 @@
-use Rattle.std.proofs.Common.{is_some, true, refl, sym, ap}
-use Rattle.wait_set.specs.declared.waiting.Waiting.{Waiting}
-use Rattle.wait_set.specs.Waits.{is_everywhere, is_left, is_ready}
-use Rattle.wait_set.proofs.Tying.{known_at, put_kept, queued_kept, room_for, tied_put}
+use Rattle.std.proofs.Common.{IsSome, nat_eq, sym, subst}
+use Rattle.std.specs.FinMap.{get}
+use Rattle.wait_set.specs.Waits.{WaitMap}
+use Rattle.wait_set.proofs.Walks.{left_one, tied_left}
 use Rattle.wait_set.proofs.wait_set.WaitSet.leave.Goals as goal
-
-pub change-requires : goal.change-requires
-change-requires c =
-    let at = sym c.get_mut-waiting.ensures.value in
-    record {
-      known = known_at is_left c.self.inside.threads c.args.thread c.get_mut-waiting.result.now c.self.inside.left _ c.self.invariant.left_set at c.is_left.ensures;
-      room = λ _ none. room_for is_left c.self.inside.threads c.args.thread c.self.inside.left c.self.invariant.left_set (ap is_some at) none;
-    }
 
 pub invariant_of-self : goal.invariant_of-self
 invariant_of-self c =
-    let at = sym c.get_mut-waiting.ensures.value in
-    let s = c.get_mut-waiting.result.now in
-    let new : Waiting = record { spots = s.spots; everywhere = s.everywhere; ready = s.ready; left = true; runs = s.runs } in
-    tied_put c.self.inside.threads c.args.thread s new c.self.inside.queues c.self.inside.queues c.self.inside.ready c.self.inside.ready c.self.inside.everywhere c.self.inside.everywhere
-    c.self.inside.left c.change.new.self c.self.inside.running _ _ _ c.self.invariant at
-    (queued_kept c.self.inside.threads c.args.thread s c.self.inside.queues c.self.invariant.queued at)
-    (put_kept is_ready c.self.inside.threads c.args.thread s c.self.inside.ready (is_ready new) c.self.invariant.ready_set at refl)
-    (put_kept is_everywhere c.self.inside.threads c.args.thread s c.self.inside.everywhere s.everywhere c.self.invariant.everywhere_set at refl)
-    (c.change.ensures.member, c.change.ensures.ascending c.self.invariant.left_set.ascending, c.change.ensures.room)
-    refl
+    tied_left c.self.inside.threads c.leave.new.threads (λ t. nat_eq t c.args.thread)
+    (left_one c.self.inside.threads c.leave.new.threads c.args.thread (subst (λ (w : WaitMap). IsSome (get w c.args.thread)) (sym c.self.view_is) c.requires) c.leave.ensures.marks)
+    c.self.inside.queues c.self.inside.ready c.self.inside.everywhere c.self.inside.left c.leave.new.left c.self.inside.running _ _ c.self.invariant c.leave.ensures.set

@@ -1,21 +1,17 @@
-use Rattle.std.proofs.Common.{Some, arith}
-use Rattle.wait_set.specs.Waits.{lists, so_changed, touched}
-use Rattle.wait_set.proofs.Walking.{walk_step, walk_end, remaining_step, next_before, entry_at}
+use Rattle.std.proofs.Common.{ap, ◌∙◌}
+use Rattle.std.specs.FinMap.{get}
+use Rattle.wait_set.specs.SpotQueues.{spot_has}
+use Rattle.wait_set.specs.Waits.{WaitMap, lists, where_so, touched}
+use Rattle.wait_set.proofs.Walks.{left_in, left_where, tied_left}
 use Rattle.wait_set.proofs.wait_set.WaitSet.touch_listed.Goals as goal
 
-pub loop-thread-smaller : goal.loop-thread-smaller
-loop-thread-smaller c =
-    let f = so_changed (lists c.args.spot) (λ _ s. touched s) in
-    let next = next_before (lists c.args.spot) f c.loop-thread.after (Some c.in-Some.thread) c.args.self.now c.loop-thread.self c.loop-thread.invariant c.in-Some.ensures in
-    let step = remaining_step (lists c.args.spot) c.args.self.now c.loop-thread.after c.in-Some.thread next in
-    omega (arith, step)
-
-pub loop-thread-preserved : goal.loop-thread-preserved
-loop-thread-preserved c =
-    let entry = entry_at (lists c.args.spot) c.loop-thread.self c.in-Some.thread c.in-Some.ensures.1 in
-    walk_step (lists c.args.spot) (λ _ s. touched s) c.loop-thread.after c.args.self.now c.loop-thread.self c.leave.new.self
-    c.in-Some.thread entry.0 c.loop-thread.invariant c.in-Some.ensures entry.1 (c.leave.ensures entry.0 entry.1)
+pub invariant_of-self : goal.invariant_of-self
+invariant_of-self c =
+    tied_left c.self.inside.threads c.leave_each.new.threads (λ t. spot_has c.self.inside.queues c.args.spot t) c.leave_each.ensures.marks
+    c.self.inside.queues c.self.inside.ready c.self.inside.everywhere c.self.inside.left c.leave_each.new.left c.self.inside.running _ _ c.self.invariant c.leave_each.ensures.set
 
 pub returns : goal.returns
 returns c =
-    walk_end (lists c.args.spot) (λ _ s. touched s) c.loop-thread.after c.args.self.now c.loop-thread.self c.loop-thread.invariant c.in_default.ensures
+    left_where (lists c.args.spot) c.self.inside.threads c.leave_each.new.threads
+    (λ t. c.leave_each.ensures.marks t ∙ ap (λ b. left_in b (get c.self.inside.threads t)) (c.self.invariant.queued c.args.spot t))
+    ∙ ap (λ (w : WaitMap). where_so (lists c.args.spot) (λ _ s. touched s) w) c.self.view_is

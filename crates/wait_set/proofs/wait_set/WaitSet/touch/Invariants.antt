@@ -1,9 +1,0 @@
-use Rattle.wait_set.specs.Waits.{so_changed, stands, touched}
-use Rattle.wait_set.proofs.Walking.{Walked, remaining}
-use Rattle.wait_set.proofs.wait_set.WaitSet.touch.Given as goal
-
-abbrev pub invariant-loop-thread : goal.invariant-loop-thread
-invariant-loop-thread l = Walked (so_changed (stands l.spot) (λ _ s. touched s)) l.after l.fn.self l.self
-
-abbrev pub decreases-loop-thread : goal.decreases-loop-thread
-decreases-loop-thread l = remaining (stands l.spot) l.after l.fn.self
