@@ -3,7 +3,6 @@ pub mod Released
 pub mod Lives
 pub mod OffsetCalls
 pub mod Acts
-pub mod Starts
 pub mod Steps
 pub mod Uses
 pub mod FileCalls
@@ -12,6 +11,5 @@ pub mod OpenCalls
 pub mod Families
 pub mod Opens
 pub mod OwnCalls
-pub mod ExecCalls
 pub mod Raising
 pub mod Asking

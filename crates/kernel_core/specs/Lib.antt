@@ -6,4 +6,3 @@ pub mod Opening
 pub mod Waiting
 pub mod Threads
 pub mod Ends
-pub mod Programs

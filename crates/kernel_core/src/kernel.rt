@@ -24,8 +24,6 @@ ghost use Rattle.kernel_model.specs.State.{State, put_all, Table, Part, has_part
 ghost use Rattle.kernel_model.specs.Step.{failed, outcome_by, outside, IsStep, IsUntouched, end_unreleased, end_state, step_answer};
 ghost use Rattle.kernel_model.specs.Valid.{IsValid};
 ghost use Rattle.kernel_model.specs.View.{whole};
-ghost use Rattle.kernel_parts.specs.Keys.{key};
-ghost use Rattle.wait_set.specs.Waits.{fresh};
 
 use abi_types::{
     Answer, Call, Constants, Denial, Descriptor, Errno, Family, Needed, Pid, Reply, Status,
@@ -34,10 +32,10 @@ use abi_types::{
 use channel_calls::Channels;
 use fd_table::FdTable;
 use file_tree::Tree;
-use kernel_invariant::touch_time;
+use kernel_invariant::{first_process, touch_time};
 use kernel_parts::{
     CLOCK_RESOLUTION, ProcessState, Terminal, drop_table, granted, placed, release, single,
-    streams, thread_key, touch_ended,
+    streams, touch_ended,
 };
 use maps::NumMap;
 use object_store::Objects;
@@ -81,15 +79,6 @@ impl Model for Kernel {
     ghost invariant = { λ k. IsHeld (record no_state { clock = k.clock; tables = k.tables; processes = k.processes; statuses = k.statuses; opens = k.objects.kinds; nodes = k.tree.nodes; names = k.tree.names; terms = k.terms; chans = k.channels }) k.objects.counts k.waits };
 }
 
-// The first thread, alone.
-fn first_waits(alloc: Global) -> Result<WaitSet, AllocError>
-    ensures { IfOk result (λ waits. waits ≡ map.insert map.empty (key 0 1) fresh) }
-{
-    let mut waits = WaitSet::new(alloc);
-    waits.begin(thread_key(Pid(0), Tid(1)))?;
-    Ok(waits)
-}
-
 impl Kernel {
     /// The state that a launch starts from: process 0 is live with thread 1 and the granted descriptors, numbered from 0,
     /// file tree and standard input are the launch's, and nothing was written yet. `Err` where memory ran out.
@@ -99,16 +88,20 @@ impl Kernel {
         ensures valid { IfOk result IsValid }
     {
         let (table, objects) = granted(alloc, &launch.tree, launch.grants.as_slice())?;
+        let tables = single(alloc, 0, table)?;
+        let first = first_process(alloc)?;
+        let tree = launch.tree.copy()?;
+        let terms = streams(alloc, &launch.stdin)?;
         Ok(Kernel {
             clock: 0,
-            tables: single(alloc, 0, table)?,
-            processes: single(alloc, 0, ProcessState::first(alloc)?)?,
-            statuses: single(alloc, 0, Status::Live)?,
+            tables,
+            processes: first.processes,
+            statuses: first.statuses,
             objects,
-            tree: launch.tree.copy()?,
-            terms: streams(alloc, &launch.stdin)?,
+            tree,
+            terms,
             channels: Channels::new(alloc),
-            waits: first_waits(alloc)?,
+            waits: first.waits,
             alloc,
         })
     }

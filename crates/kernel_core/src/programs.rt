@@ -1,13 +1,10 @@
 //! The call that lets another program begin in a process.
-ghost use Rattle.std.specs.Prelude.{◌≡◌, ℕ, None, Some, true, IfOk, IfErr, OnErr};
+ghost use Rattle.std.specs.Prelude.{◌≡◌, ℕ, Some, true, IfOk, IfErr, OnErr};
 ghost use Rattle.std.specs.FinMap as map;
-ghost use Rattle.clock_random.specs.Random.{random_bytes};
-ghost use Rattle.elf_image.specs.Checks.{fault_of};
 ghost use Rattle.fd_table.specs.Table.{IsTable};
 ghost use Rattle.kernel_model.specs.Done.{IsDone};
-ghost use Rattle.kernel_core.specs.Programs.{Begins, begun_updates, exec_outcome, IsProgram};
+ghost use Rattle.process_calls.specs.NewPrograms.{Begins, begun_updates, exec_outcome};
 ghost use Rattle.kernel_model.specs.Families.ClockCalls.{can_draw};
-ghost use Rattle.kernel_model.specs.Families.ForkCalls.{exec_checked, listed};
 ghost use Rattle.kernel_model.specs.Outcome.{IsSuccess, replies};
 ghost use Rattle.kernel_model.specs.Release.{lives, release};
 ghost use Rattle.kernel_model.specs.Start.{canary_words};
@@ -16,94 +13,12 @@ ghost use Rattle.kernel_model.specs.Valid.{IsNearlyValid, IsValid};
 ghost use Rattle.process_calls.specs.Forks.{IsOpenOf};
 
 use crate::kernel::Kernel;
-use abi_base::MOST_DESCRIPTORS;
 use abi_types::{Answer, Constants, Errno, Payload, Pid, Reply, Tid, Who};
 use fd_table::FdTable;
-use kernel_parts::{ProcessState, keep_thread, open_of, release, touch_numbers};
-use lists::Bytes;
-use process_calls::{check_program, program_of, put_table};
+use kernel_parts::{keep_thread, open_of, release, touch_numbers};
+use process_calls::{NewProgram, plan_program, program_of, put_table};
 use right_rules::{refused, success_with};
-use std::alloc::{AllocError, Global};
-
-// A program that is to begin in a process.
-#[derive(Drop)]
-pub(crate) struct NewProgram {
-    // The bytes of its file.
-    elf: Bytes,
-    // The random bytes that it starts with.
-    canary: Bytes,
-    // The descriptors that the process has then.
-    table: FdTable,
-}
-
-// The descriptors that are listed of a table, at their places. Each is there. A list that has more of them than a table may have is no
-// different from one for which memory runs out.
-fn pick(table: &FdTable, fds: &[u32]) -> Result<FdTable, AllocError>
-    ensures picked { IfOk result (λ made. made ≡ listed table.now fds.now) }
-    ensures small { IfOk result IsTable }
-{
-    if fds.len() > MOST_DESCRIPTORS {
-        return Err(AllocError);
-    }
-    match table.pick(fds) {
-        Ok(made) => Ok(made),
-        Err(_) => Err(AllocError),
-    }
-}
-
-// The canary of the program with these bytes that begins in the process, or the reply where none begins. Both are looked at before memory
-// is said to have run out, since it may not in a call that is refused.
-fn plan_canary(
-    alloc: Global,
-    constants: &Constants,
-    pid: Pid,
-    own: &ProcessState,
-    elf: &[u8],
-) -> Result<Result<Bytes, Reply>, AllocError>
-    ensures ok { IfOk result (λ planned. IfOk planned (λ canary. (fault_of elf.now ≡ None) × (can_draw canary_words own.now ≡ true)
-        × (canary ≡ random_bytes constants.now.key pid own.now.counts.words 64))) }
-    ensures refused { IfOk result (λ planned. IfErr planned (λ reply. (t : ℕ) (table : Table)
-        → exec_checked constants.now.key pid t table elf.now (Some own.now) (fault_of elf.now) ≡ replies reply)) }
-    ensures only { OnErr result ((fault_of elf.now ≡ None) × (can_draw canary_words own.now ≡ true)) }
-{
-    let canary = own.next_canary(alloc, constants, pid);
-    match check_program(alloc, elf) {
-        Ok(false) => Ok(Err(refused(Errno::Noexec))),
-        Ok(true) => match canary? {
-            Some(bytes) => Ok(Ok(bytes)),
-            None => Ok(Err(refused(Errno::Again))),
-        },
-        Err(error) => match canary {
-            Ok(Some(_)) => Err(error),
-            Ok(None) => Ok(Err(refused(Errno::Again))),
-            Err(_) => Err(error),
-        },
-    }
-}
-
-// The program that begins in a process with these bytes and with the descriptors that are listed, or the reply where none begins.
-fn plan_program(
-    alloc: Global,
-    constants: &Constants,
-    pid: Pid,
-    own: &ProcessState,
-    table: &FdTable,
-    elf: &[u8],
-    fds: &[u32],
-) -> Result<Result<NewProgram, Reply>, AllocError>
-    ensures ok { IfOk result (λ planned. IfOk planned (IsProgram constants.now.key pid own.now table.now elf.now fds.now)) }
-    ensures refused { IfOk result (λ planned. IfErr planned (λ reply. (t : ℕ) (table : Table)
-        → exec_checked constants.now.key pid t table elf.now (Some own.now) (fault_of elf.now) ≡ replies reply)) }
-    ensures only { OnErr result ((fault_of elf.now ≡ None) × (can_draw canary_words own.now ≡ true)) }
-{
-    let canary = match plan_canary(alloc, constants, pid, own, elf)? {
-        Ok(canary) => canary,
-        Err(reply) => return Ok(Err(reply)),
-    };
-    let table = pick(table, fds)?;
-    let elf = Bytes::of(alloc, elf)?;
-    Ok(Ok(NewProgram { elf, canary, table }))
-}
+use std::alloc::AllocError;
 
 impl Kernel {
     // The program that a call lets begin, or the reply where it lets none. All that takes memory is done here.

@@ -21,3 +21,4 @@ pub mod Leaving
 pub mod Parks
 pub mod Waiters
 pub mod Walking
+pub mod Starts

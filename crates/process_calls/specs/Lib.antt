@@ -1,3 +1,4 @@
 pub mod Forks
 pub mod Programs
 pub mod Signals
+pub mod NewPrograms

@@ -2,7 +2,7 @@
 #![tactic(auto)]
 
 pub use forks::{NewChild, plan_child, put_child};
-pub use programs::{check_program, program_of, put_table};
+pub use programs::{NewProgram, check_program, plan_program, program_of, put_table};
 pub use signals::{Raised, effect_of};
 
 mod forks;

@@ -12,7 +12,7 @@ use Rattle.kernel_model.specs.Valid.{IsNearlyValid}
 use Rattle.kernel_model.proofs.Valids.{same_value}
 use Rattle.kernel_parts.specs.Released.{state_by}
 use Rattle.process_calls.specs.Forks.{IsOpenOf}
-use Rattle.kernel_core.specs.Programs.{begun_updates}
+use Rattle.process_calls.specs.NewPrograms.{begun_updates}
 use Rattle.kernel_core.specs.contracts.kernel.Kernel.{the_view}
 use Rattle.kernel_invariant.proofs.HeldEnds.{begun_is_held, process_few}
 use Rattle.kernel_core.proofs.Released.{kept_released, parts, released_is_held, released_to}

@@ -8,9 +8,9 @@ use Rattle.kernel_model.specs.Outcome.{IsSuccess, Outcome, replies}
 use Rattle.kernel_model.specs.State.{State, Table}
 use Rattle.kernel_model.proofs.Valids.{same_value}
 use Rattle.process_calls.specs.Forks.{IsOpenOf}
-use Rattle.kernel_core.specs.Programs.{Begins, exec_bytes, exec_outcome}
+use Rattle.process_calls.specs.NewPrograms.{Begins, exec_bytes, exec_outcome}
 use Rattle.kernel_core.specs.contracts.kernel.Kernel.{the_view}
-use Rattle.kernel_core.proofs.ExecCalls.{exec_at, exec_begins, exec_succeeds, listed_opens}
+use Rattle.process_calls.proofs.ExecCalls.{exec_at, exec_begins, exec_succeeds, listed_opens}
 use Rattle.kernel_core.proofs.Opens.{found_here}
 use Rattle.kernel_core.proofs.kernel.Kernel.plan_exec.Goals as goal
 use Rattle.kernel_core.proofs.kernel.Kernel.plan_exec.Goals.{After-plan_program}

@@ -10,7 +10,7 @@ use Rattle.kernel_model.specs.State.{Table, put_all}
 use Rattle.kernel_model.specs.Valid.{IsNearlyValid}
 use Rattle.kernel_model.proofs.Calls.{proper}
 use Rattle.kernel_model.proofs.Valids.{same_value}
-use Rattle.kernel_core.specs.Programs.{Begins, begun_updates, exec_outcome}
+use Rattle.process_calls.specs.NewPrograms.{Begins, begun_updates, exec_outcome}
 use Rattle.kernel_core.proofs.Done.{answered_as, lacked, replied}
 use Rattle.kernel_invariant.proofs.ForkCalls.{table_there}
 use Rattle.kernel_core.proofs.kernel.Kernel.proc_exec.Goals as goal

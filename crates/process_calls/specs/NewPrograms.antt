@@ -15,7 +15,7 @@ use Rattle.kernel_model.specs.Reply.{refused}
 use Rattle.kernel_model.specs.Start.{canary_words}
 use Rattle.kernel_model.specs.State.{ProcessState, State, Table, Update, set_process, set_table}
 use Rattle.kernel_model.specs.View.{whole}
-use Rattle.kernel_core.specs.declared.programs.NewProgram.{NewProgram}
+use Rattle.process_calls.specs.declared.programs.NewProgram.{NewProgram}
 use Rattle.process_calls.specs.Forks.{IsOpenOf}
 
 -- what the call comes to of thread t of process p, whose table is this, by the open of this descriptor

@@ -2,8 +2,8 @@ use Rattle.std.proofs.Common.{sym, ap, subst, ◌∙◌}
 use Rattle.std.specs.Prelude.{IsTrue}
 use Rattle.kernel_model.specs.Outcome.{replies}
 use Rattle.kernel_model.proofs.Tests.{not_true}
-use Rattle.kernel_core.proofs.ExecCalls.{exec_faulty}
-use Rattle.kernel_core.proofs.programs.plan_canary.Goals as goal
+use Rattle.process_calls.proofs.ExecCalls.{exec_faulty}
+use Rattle.process_calls.proofs.programs.plan_canary.Goals as goal
 
 pub returns-in-Ok-false-clause-refused : goal.returns-in-Ok-false-clause-refused
 returns-in-Ok-false-clause-refused c = λ t table.

@@ -33,8 +33,8 @@ use Rattle.kernel_model.proofs.Tests.{not_true}
 use Rattle.kernel_parts.specs.Entries.{open_in}
 use Rattle.process_calls.specs.Forks.{IsOpenOf}
 use Rattle.process_calls.specs.Programs.{node_of_file}
-use Rattle.kernel_core.specs.Programs.{IsProgram, begun, exec_bytes, exec_outcome}
-use Rattle.kernel_core.specs.declared.programs.NewProgram.{NewProgram}
+use Rattle.process_calls.specs.NewPrograms.{IsProgram, begun, exec_bytes, exec_outcome}
+use Rattle.process_calls.specs.declared.programs.NewProgram.{NewProgram}
 
 -- ---- the descriptors that are listed
 
