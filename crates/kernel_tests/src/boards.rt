@@ -30,6 +30,11 @@ enum Event {
     Wakes,
     // Whether a worker that waits is to be woken.
     Rings(bool),
+    // Whether one that is awake waits on.
+    WaitsOn(bool),
+    // Whether another worker is to be started, and one that was has come.
+    Wants(bool),
+    Comes,
 }
 
 // How a ticket comes back of which no other thread was made.
@@ -49,9 +54,6 @@ enum Next {
     Idle,
     Leave,
 }
-
-// As many as there are tickets.
-const WORKERS: u32 = 5;
 
 // What comes to a board, one after another.
 const CASES: &[&[Event]] = &[
@@ -153,6 +155,25 @@ const CASES: &[&[Event]] = &[
         Event::Asked(None),
         Event::Gets(Next::Idle),
     ],
+    // Nor is one of a process whose ticket comes back meanwhile.
+    &[
+        Event::Put('a'),
+        Event::Put('c'),
+        Event::Put('e'),
+        Event::Gets(Next::Run('a')),
+        Event::Back('a', How::Waits, false),
+        Event::Gets(Next::Run('c')),
+        Event::Gets(Next::Run('e')),
+        Event::Tell('e'),
+        Event::Back('e', How::Runs, false),
+        Event::Gets(Next::Ask(None)),
+        Event::Back('c', How::Runs, false),
+        Event::Waits(true),
+        Event::Asked(None),
+        Event::Waits(false),
+        Event::Gets(Next::Run('e')),
+        Event::Gets(Next::Run('c')),
+    ],
     // A pass that names only threads whose tickets are ready or lent ends. A ticket that was lent comes once more, though its thread waits.
     &[
         Event::Put('a'),
@@ -242,12 +263,57 @@ const CASES: &[&[Event]] = &[
         Event::Asked(Some('a')),
         Event::Gets(Next::Run('a')),
         Event::Rings(true),
+        Event::Rings(false),
+        Event::WaitsOn(false),
         Event::Wakes,
         Event::Rings(false),
         Event::Gets(Next::Run('c')),
         Event::Waits(true),
         Event::Sleeps,
         Event::Back('a', How::NoMemory, true),
+        Event::Rings(true),
+    ],
+    // Nobody is woken while one that was woken is on its way, who takes the task or finds that another worker took it.
+    &[
+        Event::Put('a'),
+        Event::Gets(Next::Run('a')),
+        Event::Waits(true),
+        Event::Sleeps,
+        Event::Sleeps,
+        Event::Put('c'),
+        Event::Rings(true),
+        Event::Put('e'),
+        Event::Rings(false),
+        Event::WaitsOn(false),
+        Event::Wakes,
+        Event::Gets(Next::Run('c')),
+        Event::Rings(true),
+        Event::Back('c', How::Runs, false),
+        Event::Gets(Next::Run('e')),
+        Event::Rings(false),
+        Event::Gets(Next::Run('c')),
+        Event::WaitsOn(true),
+        Event::Rings(false),
+    ],
+    // A worker is started where a task is left that no worker takes who waits or is on its way.
+    &[
+        Event::Put('a'),
+        Event::Put('b'),
+        Event::Gets(Next::Run('a')),
+        Event::Wants(false),
+        Event::Put('c'),
+        Event::Wants(true),
+        Event::Put('e'),
+        Event::Wants(false),
+        Event::Comes,
+        Event::Gets(Next::Run('c')),
+        Event::Wants(true),
+        Event::Comes,
+        Event::Gets(Next::Run('e')),
+        Event::Wants(false),
+        Event::Sleeps,
+        Event::Back('c', How::Runs, false),
+        Event::Wants(false),
         Event::Rings(true),
     ],
     // Tickets of threads and of children that are made.
@@ -332,6 +398,9 @@ fn follow(board: &mut Board<Named>, event: Event) -> bool {
         Event::Sleeps => board.begin_waiting(),
         Event::Wakes => board.end_waiting(),
         Event::Rings(rings) => return board.rings() == rings,
+        Event::WaitsOn(waits) => return board.waits_on() == waits,
+        Event::Wants(wants) => return board.wants_worker() == wants,
+        Event::Comes => board.begin_work(),
     }
     true
 }
@@ -339,7 +408,7 @@ fn follow(board: &mut Board<Named>, event: Event) -> bool {
 #[test]
 fn tasks_are_handed_out(rt: HostRuntime) -> Result<(), Fail> {
     for (number, events) in CASES.iter().enumerate() {
-        let mut board = Board::new(rt.alloc(), WORKERS)?;
+        let mut board = Board::new(rt.alloc());
         board.tell(ticket('a').pid(), false);
         for (place, event) in events.iter().enumerate() {
             assert!(rt;

@@ -11,12 +11,12 @@ enum Step {
     Put(char),
     Park(char),
     Take(Option<char>),
-    // Of those whose process is none of these.
+    // While workers have these processes.
     TakeFree(&'static [u32], Option<char>),
     // Of the thread that has the ticket.
     TakeParked(char, bool),
     Revive(char, bool),
-    // Whether one is parked whose process is none of these.
+    // Whether one is parked of a free process, while workers have these.
     HasParked(&'static [u32], bool),
 }
 
@@ -140,13 +140,29 @@ const CASES: &[Case] = &[
     },
 ];
 
-// The processes of these numbers.
-fn processes(alloc: Global, numbers: &[u32]) -> Result<Vec<Pid>, AllocError> {
-    let mut pids = Vec::new(alloc);
+// Notes that workers have the processes of these numbers.
+fn hold(queue: &mut Queue<Named>, numbers: &[u32]) -> Result<(), AllocError> {
     for number in numbers {
-        pids.push(Pid(*number))?;
+        queue.hold(Pid(*number))?;
     }
-    Ok(pids)
+    Ok(())
+}
+
+// Notes that none has them.
+fn release(queue: &mut Queue<Named>, numbers: &[u32]) -> Result<(), AllocError> {
+    for number in numbers {
+        queue.release(Pid(*number))?;
+    }
+    Ok(())
+}
+
+// Takes the first ticket of a process that no worker has. No worker has it after that.
+fn take(queue: &mut Queue<Named>) -> Result<Option<char>, AllocError> {
+    let Some(ticket) = queue.take_free()? else {
+        return Ok(None);
+    };
+    queue.release(ticket.pid())?;
+    Ok(Some(ticket.name))
 }
 
 // Takes the parked ticket of the thread that has this one. Whether it is that one.
@@ -158,26 +174,36 @@ fn takes_parked(queue: &mut Queue<Named>, name: char) -> bool {
         == Some(name)
 }
 
+// Makes the parked ticket of the thread that has this one ready. Whether there is one.
+fn revive(queue: &mut Queue<Named>, name: char) -> Result<bool, AllocError> {
+    let named = ticket(name);
+    let Some(parked) = queue.take_parked(named.pid(), named.tid()) else {
+        return Ok(false);
+    };
+    queue.put(parked).map_err(|_| AllocError)?;
+    Ok(true)
+}
+
 // Does a step. Whether its answer is the step's.
-fn follow(alloc: Global, queue: &mut Queue<Named>, step: Step) -> Result<bool, AllocError> {
+fn follow(queue: &mut Queue<Named>, step: Step) -> Result<bool, AllocError> {
     match step {
         Step::Put(name) => queue.put(ticket(name)).map_err(|_| AllocError)?,
         Step::Park(name) => queue.park(ticket(name)).map_err(|_| AllocError)?,
-        Step::Take(name) => return Ok(queue.take_free(&[]).map(|ticket| ticket.name) == name),
+        Step::Take(name) => return Ok(take(queue)? == name),
         Step::TakeFree(busy, name) => {
-            let busy = processes(alloc, busy)?;
-            let has = queue.has_free(&busy);
-            let took = queue.take_free(&busy).map(|ticket| ticket.name);
+            hold(queue, busy)?;
+            let has = queue.has_free();
+            let took = take(queue)?;
+            release(queue, busy)?;
             return Ok(has == name.is_some() && took == name);
         }
         Step::TakeParked(name, answer) => return Ok(takes_parked(queue, name) == answer),
-        Step::Revive(name, answer) => {
-            let named = ticket(name);
-            return Ok(queue.revive(named.pid(), named.tid()) == answer);
-        }
+        Step::Revive(name, answer) => return Ok(revive(queue, name)? == answer),
         Step::HasParked(busy, answer) => {
-            let busy = processes(alloc, busy)?;
-            return Ok(queue.has_parked(&busy) == answer);
+            hold(queue, busy)?;
+            let has = queue.has_parked();
+            release(queue, busy)?;
+            return Ok(has == answer);
         }
     }
     Ok(true)
@@ -187,8 +213,8 @@ fn follow(alloc: Global, queue: &mut Queue<Named>, step: Step) -> Result<bool, A
 fn taken(alloc: Global, queue: &mut Queue<Named>) -> Result<String, AllocError> {
     let mut names = String::new(alloc);
     for _ in 0..MANY {
-        if let Some(ticket) = queue.take_free(&[]) {
-            names.push(ticket.name)?;
+        if let Some(name) = take(queue)? {
+            names.push(name)?;
         }
     }
     Ok(names)
@@ -200,7 +226,7 @@ fn tickets_are_served_in_order(rt: HostRuntime) -> Result<(), Fail> {
         let mut queue = Queue::new(rt.alloc());
         for step in case.steps {
             assert!(rt;
-                follow(rt.alloc(), &mut queue, *step)?,
+                follow(&mut queue, *step)?,
                 "before {} and {}",
                 case.ready,
                 case.parked

@@ -135,7 +135,7 @@ struct Workplace<J: Naming> {
 
 impl<J: Naming> Workplace<J> {
     // Leaves the board. Another worker is woken only where one waits that need wait no more.
-    fn leave(&self, board: MutexGuard<'_, Board<ThreadTicket<J>>>) {
+    fn leave(&self, mut board: MutexGuard<'_, Board<ThreadTicket<J>>>) {
         let rings = board.rings();
         drop(board);
         if rings {
@@ -156,7 +156,7 @@ impl<J: Naming> Workplace<J> {
         }
         if board.waits() {
             board.begin_waiting();
-            board = self.bell.wait_while(rt, board, |board| board.waits());
+            board = self.bell.wait_while(rt, board, |board| board.waits_on());
             board.end_waiting();
         }
         let task = board.hand_out();
@@ -270,9 +270,7 @@ fn run_process<J: Naming + Send + Sync, R: Threads + Wait + Sync, G: Gate + Sync
     let Ok(ticket) = ThreadTicket::new(alloc, process, FIRST_THREAD) else {
         return;
     };
-    let Ok(mut board) = Board::new(alloc, workers) else {
-        return;
-    };
+    let mut board = Board::new(alloc);
     board.put(ticket);
     let workplace = Workplace {
         board: Mutex::new(board),

@@ -1,3 +1,4 @@
-pub mod Parked
-pub mod Passing
-pub mod Positions
+pub mod Firsts
+pub mod Numbering
+pub mod Idle
+pub mod Order

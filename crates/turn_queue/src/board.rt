@@ -1,7 +1,9 @@
 //! What the workers of a run share under one lock: the tickets, and who has one or waits for one.
 use crate::asking::Asking;
 use crate::queue::{Queue, Ticket};
+use crate::ready_tickets::key_of;
 use abi_base::{Pid, Tid};
+use maps::NumMap;
 use std::alloc::{AllocError, Global};
 
 /// A ticket of a process's thread, which can make that of another. Who is done with it lets it go.
@@ -49,68 +51,50 @@ pub enum Passed {
     Stopped,
 }
 
-// The ticket of this thread, and whether it is to be handed out again even if the thread waits when the ticket is back.
+// The ticket of this thread of a process, and whether it is to be handed out again even if the thread waits when the ticket is back.
 #[derive(Clone, Copy, Drop)]
 struct Lent {
-    pid: Pid,
     tid: Tid,
     again: bool,
 }
 
-// The tickets that workers have, of which no two are of one process. There is room for a ticket of each worker from the start, so that none takes
-// memory.
+// The tickets that workers have, by their processes.
 #[derive(Drop)]
 struct Outside {
-    busy: Vec<Pid, Global>,
-    lent: Vec<Lent, Global>,
+    lent: NumMap<Lent>,
 }
 
 impl Outside {
-    // No ticket, with room for one of each of this many workers.
-    fn new(alloc: Global, workers: u32) -> Result<Outside, AllocError> {
-        let busy = Vec::with_capacity(alloc, workers as usize)?;
-        let lent = Vec::with_capacity(alloc, workers as usize)?;
-        Ok(Outside { busy, lent })
+    // No ticket.
+    fn new(alloc: Global) -> Outside {
+        Outside {
+            lent: NumMap::new(alloc),
+        }
     }
 
-    // The processes of these tickets.
-    fn busy(&self) -> &[Pid] {
-        self.busy.as_slice()
-    }
-
-    // Whether one of them is of this process.
-    fn has(&self, pid: Pid) -> bool {
-        self.busy.iter().any(|other| other.0 == pid.0)
-    }
-
-    // Enters the ticket of a thread. `Err` where there is no room for it and memory ran out.
+    // Enters the ticket of a thread. `Err` where memory ran out.
     fn enter(&mut self, pid: Pid, tid: Tid) -> Result<(), AllocError> {
-        self.busy.push(pid)?;
-        self.lent.push(Lent {
-            pid,
-            tid,
-            again: false,
-        })?;
+        let lent = Lent { tid, again: false };
+        self.lent.insert(key_of(pid), lent)?;
         Ok(())
     }
 
     // Takes the ticket of this process off. Whether it is to be handed out again.
     fn leave(&mut self, pid: Pid) -> bool {
-        let again = self
-            .lent
-            .iter()
-            .any(|lent| lent.pid.0 == pid.0 && lent.again);
-        self.busy.retain(|other| other.0 != pid.0);
-        self.lent.retain(|lent| lent.pid.0 != pid.0);
-        again
+        match self.lent.remove(key_of(pid)) {
+            Some(lent) => lent.again,
+            None => false,
+        }
     }
 
     // Notes that the ticket of a thread is to be handed out again, if it is one of these.
     fn mark(&mut self, pid: Pid, tid: Tid) {
-        for lent in self.lent.iter_mut() {
-            if lent.pid.0 == pid.0 && lent.tid.0 == tid.0 {
-                lent.again = true;
-            }
+        let key = key_of(pid);
+        let Some(lent) = self.lent.get(key) else {
+            return;
+        };
+        if lent.tid.0 == tid.0 {
+            self.lent.replace(key, Lent { tid, again: true });
         }
     }
 }
@@ -126,30 +110,32 @@ pub struct Board<T: SharedTicket> {
     found: Option<T>,
     // Tickets that are ready have their turn, since the last task was to ask, or came of that.
     asked_last: bool,
-    // The process of the thread by which something was told last, and that of which no ticket is handed out while a worker asks.
+    // The process of the thread by which something was told last, and those of which no ticket is handed out until the worker who asks is back.
     teller: Option<Pid>,
-    held: Option<Pid>,
+    held: Vec<Pid, Global>,
     at_work: u32,
     waiting: u32,
+    // A worker that was woken, or is being started, hasn't come for its task yet.
+    coming: bool,
     stops: bool,
 }
 
 impl<T: SharedTicket> Board<T> {
-    /// A board without a ticket, for this many workers. `Err` where memory ran out.
-    pub fn new(alloc: Global, workers: u32) -> Result<Board<T>, AllocError> {
-        let outside = Outside::new(alloc, workers)?;
-        Ok(Board {
+    /// A board without a ticket.
+    pub fn new(alloc: Global) -> Board<T> {
+        Board {
             queue: Queue::new(alloc),
-            outside,
+            outside: Outside::new(alloc),
             asking: Asking::new(),
             found: None,
             asked_last: false,
             teller: None,
-            held: None,
+            held: Vec::new(alloc),
             at_work: 0,
             waiting: 0,
+            coming: false,
             stops: false,
-        })
+        }
     }
 
     /// Puts a ticket behind those that are ready. Where memory runs out, all workers are to stop.
@@ -174,16 +160,30 @@ impl<T: SharedTicket> Board<T> {
         }
     }
 
-    // Has the kernel asked. Meanwhile no ticket is handed out of the process that told of something last, as if the worker who asks had one: else
-    // its threads could go far before those that wait have their answer. No thread has the number 0.
+    // Has the kernel asked. Meanwhile no ticket is handed out of the process that told of something last, nor of one whose ticket comes back, as if
+    // the worker who asks had one: else their threads could go far before those that wait have their answer, since the host may stop that worker.
     fn ask(&mut self) -> Task<T> {
         self.asked_last = true;
-        if let Some(pid) = self.teller {
-            if !self.outside.has(pid) && self.outside.enter(pid, Tid(0)).is_ok() {
-                self.held = self.teller.take();
+        if let Some(pid) = self.teller.take() {
+            if !self.queue.is_held(pid) && self.queue.hold(pid).is_ok() {
+                self.hold_back(pid);
             }
         }
         Task::Ask(self.asking.begin())
+    }
+
+    // Keeps a process, which is held, until the worker who asks is back. Where memory lacks for that it is free at once.
+    fn hold_back(&mut self, pid: Pid) {
+        if self.held.push(pid).is_err() {
+            self.release(pid);
+        }
+    }
+
+    // Notes that no worker has the process. Where memory runs out, all workers are to stop.
+    fn release(&mut self, pid: Pid) {
+        if self.queue.release(pid).is_err() {
+            self.stops = true;
+        }
     }
 
     // Puts the ticket of another thread of the process. Where memory runs out, all workers are to stop.
@@ -198,6 +198,11 @@ impl<T: SharedTicket> Board<T> {
     // thread that was made has a ticket from then on. One that has ended has none, and its ticket is given back.
     fn place(&mut self, ticket: T, back: Back) -> Option<T> {
         let again = self.outside.leave(ticket.pid());
+        if self.asking.is_under_way() {
+            self.hold_back(ticket.pid());
+        } else {
+            self.release(ticket.pid());
+        }
         match back {
             Back::NoMemory => {
                 self.stops = true;
@@ -250,9 +255,12 @@ impl<T: SharedTicket> Board<T> {
     /// waits.
     pub fn take_asked(&mut self, found: Option<(Pid, Tid)>) {
         self.end_work();
-        if let Some(pid) = self.held.take() {
-            self.outside.leave(pid);
+        for pid in &self.held {
+            if self.queue.release(*pid).is_err() {
+                self.stops = true;
+            }
         }
+        self.held.clear();
         if let Some(thread) = &found {
             self.take_ready(thread.0, thread.1);
         }
@@ -261,14 +269,14 @@ impl<T: SharedTicket> Board<T> {
 
     // Sees to the ticket of a ready thread. One that is ready already stays where it is.
     fn take_ready(&mut self, pid: Pid, tid: Tid) {
-        if self.outside.has(pid) {
-            if self.queue.revive(pid, tid) {
-                self.asking.bring();
-            } else {
-                self.outside.mark(pid, tid);
-            }
-        } else if let Some(ticket) = self.queue.take_parked(pid, tid) {
-            self.asking.bring();
+        let Some(ticket) = self.queue.take_parked(pid, tid) else {
+            self.outside.mark(pid, tid);
+            return;
+        };
+        self.asking.bring();
+        if self.queue.is_held(pid) {
+            self.put(ticket);
+        } else {
             self.found = Some(ticket);
         }
     }
@@ -283,12 +291,7 @@ impl<T: SharedTicket> Board<T> {
         ticket
     }
 
-    // Whether a ticket is ready whose process no worker has.
-    fn has_free(&self) -> bool {
-        self.queue.has_free(self.outside.busy())
-    }
-
-    // Hands a ticket out. Where memory runs out, all workers are to stop.
+    // Hands out a ticket whose process is held. Where memory runs out, all workers are to stop.
     fn lend(&mut self, ticket: T) -> Task<T> {
         if self.outside.enter(ticket.pid(), ticket.tid()).is_err() {
             self.stops = true;
@@ -297,15 +300,39 @@ impl<T: SharedTicket> Board<T> {
         Task::Run(ticket)
     }
 
+    // Hands out the ticket that was found, whose process is free.
+    fn lend_found(&mut self, ticket: T) -> Task<T> {
+        if self.queue.hold(ticket.pid()).is_err() {
+            self.stops = true;
+            return Task::Leave;
+        }
+        self.lend(ticket)
+    }
+
+    // Hands out the ticket that has been ready longest of those whose process no worker has, if there is one.
+    fn lend_first(&mut self) -> Option<Task<T>> {
+        match self.queue.take_free() {
+            Ok(Some(ticket)) => {
+                self.asked_last = false;
+                Some(self.lend(ticket))
+            }
+            Ok(None) => None,
+            Err(AllocError) => {
+                self.stops = true;
+                Some(Task::Leave)
+            }
+        }
+    }
+
     // Whether the kernel may be asked. Where all parked tickets are of processes that workers have, no answer brings a task: then it is asked
     // once one of them is back.
     fn may_ask(&self) -> bool {
-        self.asking.is_due() && self.queue.has_parked(self.outside.busy())
+        self.asking.is_due() && self.queue.has_parked()
     }
 
     // Whether it is asked now. Where a ticket is ready, that has its turn before the next answer.
     fn asks(&self) -> bool {
-        self.may_ask() && !(self.asked_last && self.has_free())
+        self.may_ask() && !(self.asked_last && self.queue.has_free())
     }
 
     // What a worker is to do: what was found as it asked; or to ask; or the ticket that has been ready longest of those whose process no other
@@ -313,14 +340,13 @@ impl<T: SharedTicket> Board<T> {
     // work and some are parked, time is to go on.
     fn task(&mut self) -> Task<T> {
         if let Some(ticket) = self.found.take() {
-            return self.lend(ticket);
+            return self.lend_found(ticket);
         }
         if self.asks() {
             return self.ask();
         }
-        if let Some(ticket) = self.queue.take_free(self.outside.busy()) {
-            self.asked_last = false;
-            return self.lend(ticket);
+        if let Some(task) = self.lend_first() {
+            return task;
         }
         if self.at_work == 0 && self.queue.parked_count() > 0 {
             return Task::Idle;
@@ -342,7 +368,7 @@ impl<T: SharedTicket> Board<T> {
 
     // Whether there is a task for a worker beside those that are at work.
     fn has_task(&self) -> bool {
-        self.found.is_some() || self.may_ask() || self.has_free()
+        self.found.is_some() || self.may_ask() || self.queue.has_free()
     }
 
     /// Whether a worker is to wait: no ticket of a free process is ready, and no answer of the kernel can bring one. But some worker is at work,
@@ -356,18 +382,53 @@ impl<T: SharedTicket> Board<T> {
         self.waiting = self.waiting.saturating_add(1);
     }
 
+    /// Whether a worker that waits is to wait on, each time that it is awake and has the board. It has come then.
+    pub fn waits_on(&mut self) -> bool {
+        self.coming = false;
+        self.waits()
+    }
+
     /// Counts a worker that waits no more.
     pub fn end_waiting(&mut self) {
         self.waiting = self.waiting.saturating_sub(1);
+    }
+
+    /// Notes that a worker that was started has come.
+    pub fn begin_work(&mut self) {
+        self.coming = false;
+    }
+
+    // Whether there is a task, or all are to leave, and no worker is on its way to the board. While a worker asks the kernel none is called: it
+    // comes back at once.
+    fn calls(&self) -> bool {
+        !self.coming && !self.asking.is_under_way() && !self.waits()
     }
 
     // No worker waits in vain. Tickets become ready, processes free, workers fewer and the kernel is to be asked by what is taken and told, and
     // `hand_out` only makes a process busy, or has the kernel asked, or stops all. Who comes with one of these takes the first task itself. If
     // another one is left then, or all are to leave, one that waits is woken, takes the next, and is asked the same. If somebody else takes that
     // task before, it waits on, and that one is asked. Who asks the kernel comes with its answer, and wakes then whom nobody woke meanwhile.
-    /// Whether a worker waits that need wait no more, and so is to be woken. It is asked after each `take_back`, `take_passed`, `take_asked` and
-    /// `hand_out`, under the lock under which these were. While a worker asks the kernel none is woken: it comes back at once.
-    pub fn rings(&self) -> bool {
-        self.waiting > 0 && !self.asking.is_under_way() && !self.waits()
+    //
+    // Nobody is woken while one that was woken is on its way, since that one sees all that came meanwhile: it takes a task, and is asked the
+    // same, or finds none. It does come: where `coming` is set some worker waits, and whoever set it wakes one after that. If none sleeps then,
+    // those that waited are awake, and the first of them that has the board notes that it has come.
+    /// Whether a worker that waits is to be woken, which is on its way from then on. It is asked after each `take_back`, `take_passed`,
+    /// `take_asked` and `hand_out`, under the lock under which these were, and who is told so wakes one that waits.
+    pub fn rings(&mut self) -> bool {
+        let rings = self.waiting > 0 && self.calls();
+        if rings {
+            self.coming = true;
+        }
+        rings
+    }
+
+    /// Whether a worker is to be started, which is on its way from then on: there is a task, and no worker waits or is on its way. It is asked
+    /// after `rings`, under the same lock. The new worker calls `begin_work` when it has the board, as does who can't start it.
+    pub fn wants_worker(&mut self) -> bool {
+        let wants = self.waiting == 0 && !self.stops && self.has_task() && self.calls();
+        if wants {
+            self.coming = true;
+        }
+        wants
     }
 }

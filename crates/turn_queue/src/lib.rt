@@ -8,3 +8,5 @@ pub use queue::{Queue, Ticket};
 mod asking;
 mod board;
 mod queue;
+mod ready_tickets;
+mod wide_set;

@@ -1,13 +1,15 @@
 //! A queue of tickets: those that are ready, first come first served, and those that are parked, which are found by their threads.
-ghost use Rattle.std.specs.Prelude.{◌≡◌, ◌==◌, ◌++◌, ◌/◌, ◌*◌, ◌+◌, ◌-◌, ◌^◌, true, false, ℕ, [], ◌∷◌, position, OnOk, IfErr, IfSome, IfNone};
+ghost use Rattle.std.specs.Prelude.{◌≡◌, ◌==◌, ◌*◌, ◌+◌, ◌/◌, ◌^◌, ◌&&◌, not, cond, true, false, ℕ, is_some, OnOk, OnErr, IfOk, IfErr, IfSome, None};
 ghost use Rattle.std.specs.FinMap as map;
 ghost use Rattle.std.specs.List.{list_any};
-ghost use Rattle.turn_queue.specs.Tickets.{none, number_of, is_free, revived, with_parked, without, IsTicketOf, NoneFree, NoneParked, SomeParked, TakesFree};
+ghost use Rattle.maps.specs.Maps.{least_key};
+ghost use Rattle.turn_queue.specs.Numbered.{is_free};
+ghost use Rattle.turn_queue.specs.Tickets.{held, none, number_of, put_or_parked, released, with_parked, with_ready, without, IsTicketOf, MayTake, NoneParked, SomeParked, StandsUnder};
 
+use crate::ready_tickets::{ReadyTickets, key_of, note};
 use abi_base::{Pid, Tid};
 use maps::NumMap;
-use std::alloc::Global;
-use std::collections::VecDeque;
+use std::alloc::{AllocError, Global};
 use std::marker::Model;
 
 /// The right to run a thread: who has its ticket runs it, and nobody else does.
@@ -27,13 +29,15 @@ pub trait Ticket {
         ensures { result ≡ thread self.now };
 }
 
-/// Tickets that are ready, which contracts see as a list, and tickets that are parked, which they see as a finite map from the numbers of
-/// threads. Each ticket is in one place: it is ready, or parked, or outside with who took it. There is always room to make every parked ticket
-/// ready.
+/// Tickets that are ready, which contracts see as a list, tickets that are parked, which they see as a finite map from the numbers of threads,
+/// and the processes that workers have. Each ticket is in one place: it is ready, or parked, or outside with who took it. No answer takes a look
+/// at more than a few tickets, however many there are.
 #[derive(Drop)]
 pub struct Queue<T: Ticket> {
-    ready: VecDeque<T, Global>,
+    ready: ReadyTickets<T>,
     parked: NumMap<T>,
+    // The processes that have a parked ticket and that no worker has.
+    idle: NumMap<()>,
 }
 
 impl<T: Ticket> Model for Queue<T> {
@@ -45,12 +49,12 @@ impl<T: Ticket> Model for Queue<T> {
 
     ghost coded = { tickets_code T.code };
 
+    ghost use Rattle.std.specs.FinMap as map;
     ghost use Rattle.turn_queue.specs.Tickets.{IsQueue};
-    ghost use Rattle.std.specs.VecDeque.{deque_len, deque_capacity};
 
-    ghost view = { λ q. record { ready = q.ready.items; parked = q.parked } };
+    ghost view = { λ q. record { ready = map.values q.ready.tickets; parked = q.parked; busy = q.ready.busy } };
 
-    ghost invariant = { λ q. IsQueue T.process T.thread (deque_len q.ready) (deque_capacity q.ready) q.parked };
+    ghost invariant = { λ q. IsQueue T.process T.thread q.parked q.ready.busy q.idle };
 }
 
 impl<T: Ticket> Queue<T> {
@@ -59,16 +63,17 @@ impl<T: Ticket> Queue<T> {
         ensures { result ≡ none }
     {
         Queue {
-            ready: VecDeque::new(alloc),
+            ready: ReadyTickets::new(alloc),
             parked: NumMap::new(alloc),
+            idle: NumMap::new(alloc),
         }
     }
 
-    /// Whether a ticket is ready whose process is none of these.
-    pub fn has_free(&self, busy: &[Pid]) -> bool
-        ensures { result ≡ list_any (is_free T.process busy.now) self.now.ready }
+    /// Whether a ticket is ready of a process that no worker has.
+    pub fn has_free(&self) -> bool
+        ensures { result ≡ list_any (is_free T.process self.now.busy) self.now.ready }
     {
-        self.ready.iter().any(|ticket| !has(busy, ticket.pid()))
+        self.ready.first_free().is_some()
     }
 
     /// How many tickets are parked.
@@ -78,62 +83,79 @@ impl<T: Ticket> Queue<T> {
         self.parked.len()
     }
 
-    /// Whether a ticket is parked whose process is none of these. It looks at one ticket of each process alone.
-    pub fn has_parked(&self, busy: &[Pid]) -> bool
-        ensures some { result ≡ true → SomeParked T.process busy.now self.now.parked }
-        ensures none { result ≡ false → NoneParked T.process busy.now self.now.parked }
+    /// Whether a ticket is parked of a process that no worker has.
+    pub fn has_parked(&self) -> bool
+        ensures some { result ≡ true → SomeParked T.process self.now.busy self.now.parked }
+        ensures none { result ≡ false → NoneParked T.process self.now.busy self.now.parked }
     {
-        let mut next = self.parked.first_from(0);
-        while let Some(number) = next {
-            if !has(busy, process_of(number)) {
-                return true;
-            }
-            next = self.parked.first_after(last_beside(number));
-        }
-        false
+        self.idle.first_from(0).is_some()
+    }
+
+    /// Whether a worker has the process.
+    pub fn is_held(&self, pid: Pid) -> bool
+        ensures { result ≡ map.contains_key self.now.busy pid }
+    {
+        self.ready.is_busy(pid)
     }
 
     /// Puts a ticket behind those that are ready. `Err` gives it back where memory ran out.
     pub fn put(&mut self, ticket: T) -> Result<(), T>
-        ensures ok { OnOk result (self.new ≡ record { ready = self.old.ready ++ ticket ∷ []; parked = self.old.parked }) }
+        ensures ok { OnOk result (self.new ≡ with_ready ticket self.old) }
         ensures err { IfErr result (λ back. (back ≡ ticket) × (self.new ≡ self.old)) }
     {
-        let Ok(()) = self.ready.reserve(self.parked.len() + 1) else {
-            return Err(ticket);
-        };
-        self.ready.push_back_reserved(ticket);
-        Ok(())
+        self.ready.put(ticket)
     }
 
-    /// Takes the ticket that has been ready longest of those whose process is none of these. The others keep their order. `None` exactly where
-    /// there is no such ticket. It looks at none behind the one that it takes.
-    pub fn take_free(&mut self, busy: &[Pid]) -> Option<T>
-        ensures some { IfSome result (λ ticket. TakesFree T.process busy.now ticket self.old self.new) }
-        ensures none { IfNone result (NoneFree T.process busy.now self.old.ready × (self.new ≡ self.old)) }
+    /// Takes the ticket that has been ready longest of those whose process no worker has, and notes that a worker has its process. The others keep
+    /// their order. `None` exactly where there is no such ticket, `Err` where memory ran out.
+    pub fn take_free(&mut self) -> Result<Option<T>, AllocError>
+        ensures ok { IfOk result (λ taken. MayTake T.process taken self.old self.new) }
+        ensures err { OnErr result (self.new ≡ self.old) }
     {
-        let Some(at) = free_place(&self.ready, busy) else {
-            return None;
-        };
-        self.ready.remove(at)
+        match self.ready.take_free() {
+            Ok(Some(ticket)) => {
+                self.idle.remove(key_of(ticket.pid()));
+                Ok(Some(ticket))
+            }
+            Ok(None) => Ok(None),
+            Err(failed) => Err(failed),
+        }
     }
 
-    /// Parks a ticket. One of the same thread that is parked already becomes ready, behind those that are. `Err` gives the ticket back where
+    /// Parks a ticket. It becomes ready, behind those that are, where one of the same thread is parked already. `Err` gives the ticket back where
     /// memory ran out.
     pub fn park(&mut self, ticket: T) -> Result<(), T>
-        ensures ok { OnOk result (self.new ≡ with_parked (number_of (T.process ticket) (T.thread ticket)) ticket self.old) }
+        ensures ok { OnOk result (self.new ≡ put_or_parked (number_of (T.process ticket) (T.thread ticket)) ticket self.old) }
         ensures err { IfErr result (λ back. (back ≡ ticket) × (self.new ≡ self.old)) }
     {
-        let Ok(()) = self.ready.reserve(self.parked.len() + 1) else {
+        let pid = ticket.pid();
+        let number = number_of(pid, ticket.tid());
+        if self.parked.contains(number) {
+            return self.put(ticket);
+        }
+        self.park_first(pid, number, ticket)
+    }
+
+    // Parks a ticket of a thread of which none is parked. `Err` gives it back where memory ran out.
+    fn park_first(&mut self, pid: Pid, number: u64, ticket: T) -> Result<(), T>
+        requires none { map.get self.now.parked number ≡ None }
+        requires pid { pid ≡ T.process ticket }
+        requires number { StandsUnder T.process T.thread number ticket }
+        ensures ok { OnOk result (self.new ≡ with_parked number ticket self.old) }
+        ensures err { IfErr result (λ back. (back ≡ ticket) × (self.new ≡ self.old)) }
+    {
+        let enters = is_missing(&self.ready, &self.idle, pid);
+        let Ok(()) = enter(&mut self.idle, pid, enters) else {
             return Err(ticket);
         };
-        let number = number_of(ticket.pid(), ticket.tid());
         match self.parked.insert(number, ticket) {
             Ok(None) => Ok(()),
-            Ok(Some(other)) => {
-                self.ready.push_back_reserved(other);
-                Ok(())
+            // None was parked of the thread.
+            Ok(Some(other)) => Err(other),
+            Err(failed) => {
+                leave(&mut self.idle, pid, enters);
+                Err(failed.value.1)
             }
-            Err(failed) => Err(failed.value.1),
         }
     }
 
@@ -143,19 +165,39 @@ impl<T: Ticket> Queue<T> {
         ensures whose { IfSome result (IsTicketOf T.process T.thread pid tid) }
         ensures new { self.new ≡ without (number_of pid tid) self.old }
     {
-        self.parked.remove(number_of(pid, tid))
+        let ticket = self.parked.remove(number_of(pid, tid))?;
+        let leaves = !has_beside(&self.parked, pid);
+        leave(&mut self.idle, pid, leaves);
+        Some(ticket)
     }
 
-    /// Makes the parked ticket of a thread ready, behind those that are. It takes no memory, and says whether there was one.
-    pub fn revive(&mut self, pid: Pid, tid: Tid) -> bool
-        ensures value { result ≡ map.contains_key self.old.parked (number_of pid tid) }
-        ensures new { self.new ≡ revived (number_of pid tid) self.old }
+    /// Notes that a worker has the process. `Err` where memory ran out.
+    pub fn hold(&mut self, pid: Pid) -> Result<(), AllocError>
+        ensures ok { OnOk result (self.new ≡ held pid self.old) }
+        ensures err { OnErr result (self.new ≡ self.old) }
     {
-        let Some(ticket) = self.parked.remove(number_of(pid, tid)) else {
-            return false;
-        };
-        self.ready.push_back_reserved(ticket);
-        true
+        self.ready.hold(pid)?;
+        self.idle.remove(key_of(pid));
+        Ok(())
+    }
+
+    /// Notes that no worker has the process. `Err` where memory ran out.
+    pub fn release(&mut self, pid: Pid) -> Result<(), AllocError>
+        ensures ok { OnOk result (self.new ≡ released pid self.old) }
+        ensures err { OnErr result (self.new ≡ self.old) }
+    {
+        if !self.ready.is_busy(pid) {
+            return Ok(());
+        }
+        let enters = has_beside(&self.parked, pid);
+        enter(&mut self.idle, pid, enters)?;
+        match self.ready.release(pid) {
+            Ok(()) => Ok(()),
+            Err(failed) => {
+                self.idle.remove(key_of(pid));
+                Err(failed)
+            }
+        }
     }
 }
 
@@ -166,30 +208,39 @@ fn number_of(pid: Pid, tid: Tid) -> u64
     u64::from(pid.0) * 0x1_0000_0000 + u64::from(tid.0)
 }
 
-// The process whose thread has this number.
-fn process_of(number: u64) -> Pid
-    ensures { result ≡ number / 2 ^ 32 }
+// Whether one of these, which stand under the numbers of their threads, is of the process.
+fn has_beside<T>(parked: &NumMap<T>, pid: Pid) -> bool
+    ensures { result ≡ is_some (least_key (λ number _. number / 2 ^ 32 == pid) parked.now) }
 {
-    Pid((number / 0x1_0000_0000) as u32)
+    match parked.first_from(number_of(pid, Tid(0))) {
+        Some(number) => number / 0x1_0000_0000 == key_of(pid),
+        None => false,
+    }
 }
 
-// The last number that a thread of the same process may have.
-fn last_beside(number: u64) -> u64
-    ensures { result ≡ number / 2 ^ 32 * 2 ^ 32 + (2 ^ 32 - 1) }
+// Whether the process is to be noted as idle, once a ticket of it is parked.
+fn is_missing<T: Ticket>(ready: &ReadyTickets<T>, idle: &NumMap<()>, pid: Pid) -> bool
+    ensures { result ≡ (not (map.contains_key ready.now.busy pid) && not (map.contains_key idle.now pid)) }
 {
-    number / 0x1_0000_0000 * 0x1_0000_0000 + 0xffff_ffff
+    !ready.is_busy(pid) && !idle.contains(key_of(pid))
 }
 
-// Whether the process is one of these.
-fn has(busy: &[Pid], pid: Pid) -> bool
-    ensures { result ≡ list_any (λ p. p == pid) busy.now }
+// Notes a process, if it is to be noted. `Err` where memory ran out.
+fn enter(idle: &mut NumMap<()>, pid: Pid, enters: bool) -> Result<(), AllocError>
+    ensures ok { OnOk result (idle.new ≡ cond enters (map.insert idle.old pid tt) idle.old) }
+    ensures err { OnErr result (idle.new ≡ idle.old) }
 {
-    busy.iter().any(|other| other.0 == pid.0)
+    if enters {
+        return note(idle, pid);
+    }
+    Ok(())
 }
 
-// The place of the first ticket whose process is none of these.
-fn free_place<T: Ticket>(tickets: &VecDeque<T, Global>, busy: &[Pid]) -> Option<usize>
-    ensures { result ≡ position (is_free T.process busy.now) tickets.now.items }
+// Forgets a process, if it is to be forgotten.
+fn leave(idle: &mut NumMap<()>, pid: Pid, leaves: bool)
+    ensures { idle.new ≡ cond leaves (map.remove idle.old pid) idle.old }
 {
-    tickets.iter().position(|ticket| !has(busy, ticket.pid()))
+    if leaves {
+        idle.remove(key_of(pid));
+    }
 }
